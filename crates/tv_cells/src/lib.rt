@@ -1,0 +1,5 @@
+//! The cells of a corner, the legs that run into it, the boxes beside the legs, and their costs.
+#![tactic(auto)]
+
+pub mod cell;
+pub mod legs;
