@@ -1,0 +1,4 @@
+pub mod Limits
+pub mod Excesses
+pub use Rattle.tv_spec_plane.specs.Plane
+pub use Rattle.tv_spec_plane.specs.Web

@@ -1,0 +1,41 @@
+//! What a file gives: as it was read, and within the limits.
+
+use crate::point::Point;
+use std::marker::Model;
+use tv_spec_plane::records::{RawPoint, Triple};
+
+/// Points, triangles and heights as a file gives them, each number of at most nine digits.
+#[derive(Drop, Debug)]
+pub struct RawFile {
+    pub points: Vec<RawPoint>,
+    pub triangles: Vec<Triple>,
+    pub heights: Vec<i64>,
+}
+
+impl Model for RawFile {
+    ghost use Rattle.tv_spec_plane.specs.Web.{Web};
+
+    ghost Value = { Web };
+
+    ghost view = { λ f. record { points = f.points.items; triangles = f.triangles.items; heights = f.heights.items } };
+}
+
+/// The same with all counts and numbers within the limits: at most 64 points and 128 triangles, coordinates of at most
+/// 100 and heights of at most 1,000,000 in absolute value.
+#[derive(Drop, Debug)]
+pub struct FileData {
+    pub points: Vec<Point>,
+    pub triangles: Vec<Triple>,
+    pub heights: Vec<i64>,
+}
+
+impl Model for FileData {
+    ghost use Rattle.tv_spec_plane.specs.Web.{Web};
+    ghost use Rattle.tv_lattice.specs.Limits.{IsWithinLimits};
+
+    ghost Value = { Web };
+
+    ghost view = { λ f. record { points = f.points.items; triangles = f.triangles.items; heights = f.heights.items } };
+
+    ghost invariant = { λ f. IsWithinLimits (record { points = f.points.items; triangles = f.triangles.items; heights = f.heights.items }) };
+}

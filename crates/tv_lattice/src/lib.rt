@@ -1,0 +1,8 @@
+//! Points of the plane, the data of files, classes, and the faults of files. Nothing here reads bytes.
+#![tactic(auto)]
+
+pub mod fault;
+pub mod file;
+pub mod point;
+
+pub use tv_spec_plane::records::{RawPoint, Triple};

@@ -1,0 +1,6 @@
+pub mod Places
+pub mod Lines
+pub mod Files
+pub mod Reports
+pub use Rattle.tv_spec_plane.specs.Plane
+pub use Rattle.tv_spec_plane.specs.Web
