@@ -1,0 +1,118 @@
+-- A diagram for each compact edge, and what it adds to class and Euler characteristic.
+--
+-- Rows               == a diagram by its rows
+-- Assignment         == a diagram for each compact edge, in the order of edges
+-- fixed              == a diagram for each open edge, in their order; a file gives each the empty one
+-- no_legs w          == the empty diagram for each open edge
+-- rows_at a fixed e  == the diagram of an edge, compact or open
+-- legs_of a fixed c  == the three legs of a corner
+-- all_legs w a fixed == the legs of each corner, in the order of corners
+-- zeros n            == n zeros
+-- plus, times        == sum of two vectors, and whole multiple of one
+-- class_of w a       == the sum over the compact edges of size times class
+-- edge_costs w a     == the sum over the compact edges of the edge cost of the diagram
+-- edge_twist w a     == the sum over the compact edges of the normal degree at a times the size
+-- overlaps_of legs   == the sum of the overlap costs of the corners
+-- assignments w d    == the assignments of degree at most d, each once, in order: by the diagrams in the order of
+--                       edges, of two diagrams the one of fewer cells first, then the one with the greater row first
+-- same_vector u v    == the two vectors are equal
+-- assignments_of w v == the assignments of class v
+-- IsClass w d v      == some assignment of degree at most d has the class v
+use Rattle.std.specs.Prelude.{◌≡◌, Contains, ℕ, zero, suc, ◌+◌, ◌-◌, ◌*◌, ℤ, pos, negsuc, ◌+ℤ◌, ◌*ℤ◌, List, [], ◌∷◌, map, filter, length, slice_index_or, Bool, true, false, ◌&&◌, nat_le}
+use Rattle.std.specs.Ordering.{int_eq}
+use Rattle.std.specs.List.{flat_map}
+use Rattle.tv_spec_plane.specs.declared.records.CompactEdge.{CompactEdge}
+use Rattle.tv_spec_plane.specs.declared.records.OuterEdge.{OuterEdge}
+use Rattle.tv_spec_plane.specs.declared.records.EdgeRef.{EdgeRef}
+use Rattle.tv_spec_plane.specs.declared.records.EdgeRef.TheVariants.{Compact, Outer}
+use Rattle.tv_spec_plane.specs.declared.records.Corner.{Corner}
+use Rattle.tv_spec_plane.specs.Web.{Web, compact, outer, corners, below, normal_a, normal_b, edge_class, edge_degree, degree_of}
+use Rattle.tv_partition.specs.Rows.{diagrams, size}
+use Rattle.tv_cells.specs.declared.legs.Legs.{Legs}
+use Rattle.tv_cells.specs.Costs.{edge_cost, overlap_cost}
+
+abbrev pub Rows : Type 0
+Rows = List ℕ
+
+abbrev pub Assignment : Type 0
+Assignment = List Rows
+
+abbrev pub no_legs : Web → List Rows
+no_legs w = map (λ (e : OuterEdge). []) (outer w)
+
+abbrev pub rows_at : Assignment → List Rows → EdgeRef → Rows
+rows_at a fixed (Compact k) = slice_index_or a k []
+rows_at a fixed (Outer k) = slice_index_or fixed k []
+
+abbrev pub legs_of : Assignment → List Rows → Corner → Legs
+legs_of a fixed c = record { along_x = rows_at a fixed c.along_x; along_y = rows_at a fixed c.along_y; along_z = rows_at a fixed c.along_z }
+
+abbrev pub all_legs : Web → Assignment → List Rows → List Legs
+all_legs w a fixed = map (legs_of a fixed) (corners w)
+
+abbrev pub zeros : ℕ → List ℤ
+zeros zero = []
+zeros (suc n) = pos 0 ∷ zeros n
+
+abbrev pub plus : List ℤ → List ℤ → List ℤ
+plus [] v = v
+plus (x ∷ u) [] = x ∷ u
+plus (x ∷ u) (y ∷ v) = (x +ℤ y) ∷ plus u v
+
+abbrev pub times : ℕ → List ℤ → List ℤ
+times n v = map (λ x. pos n *ℤ x) v
+
+abbrev pub class_on : Web → List CompactEdge → Assignment → List ℤ
+class_on w [] a = zeros (length w.points)
+class_on w (e ∷ es) [] = zeros (length w.points)
+class_on w (e ∷ es) (d ∷ a) = plus (times (size d) (edge_class w e)) (class_on w es a)
+
+abbrev pub class_of : Web → Assignment → List ℤ
+class_of w a = class_on w (compact w) a
+
+abbrev pub costs_on : Web → List CompactEdge → Assignment → ℤ
+costs_on w [] a = pos 0
+costs_on w (e ∷ es) [] = pos 0
+costs_on w (e ∷ es) (d ∷ a) = edge_cost d (normal_a w e) (normal_b w e) +ℤ costs_on w es a
+
+abbrev pub edge_costs : Web → Assignment → ℤ
+edge_costs w a = costs_on w (compact w) a
+
+abbrev pub twist_on : Web → List CompactEdge → Assignment → ℤ
+twist_on w [] a = pos 0
+twist_on w (e ∷ es) [] = pos 0
+twist_on w (e ∷ es) (d ∷ a) = (normal_a w e *ℤ pos (size d)) +ℤ twist_on w es a
+
+abbrev pub edge_twist : Web → Assignment → ℤ
+edge_twist w a = twist_on w (compact w) a
+
+abbrev pub overlaps_of : List Legs → ℕ
+overlaps_of [] = 0
+overlaps_of (legs ∷ rest) = overlap_cost legs + overlaps_of rest
+
+-- a positive degree as a natural number
+abbrev pub weight : ℤ → ℕ
+weight (pos n) = n
+weight (negsuc n) = 0
+
+-- one diagram for each degree, with sizes times degrees adding up to at most d
+unfoldable pub choices : List ℕ → ℕ → List Assignment
+choices [] d = [] ∷ []
+choices (g ∷ gs) d = flat_map (λ n. flat_map (λ rows. map (λ a. rows ∷ a) (choices gs (d - (n * g)))) (diagrams n)) (filter (λ n. nat_le (n * g) d) (below (suc d)))
+
+unfoldable pub assignments : Web → ℕ → List Assignment
+assignments w d = choices (map (λ e. weight (edge_degree w e)) (compact w)) d
+
+abbrev pub same_vector : List ℤ → List ℤ → Bool
+same_vector [] [] = true
+same_vector [] (y ∷ v) = false
+same_vector (x ∷ u) [] = false
+same_vector (x ∷ u) (y ∷ v) = int_eq x y && same_vector u v
+
+abbrev pub assignments_of : Web → List ℤ → List Assignment
+assignments_of w v = filter (λ a. same_vector (class_of w a) v) (assignments w (weight (degree_of w.heights v)))
+
+pub record IsClass (w : Web) (d : ℕ) (v : List ℤ) : Type 0 where
+  pub witness : Assignment
+  pub listed : Contains (assignments w d) witness
+  pub same : class_of w witness ≡ v
