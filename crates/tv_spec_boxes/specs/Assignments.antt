@@ -17,8 +17,7 @@
 --                       edges, of two diagrams the one of fewer cells first, then the one with the greater row first
 -- same_vector u v    == the two vectors are equal
 -- assignments_of w v == the assignments of class v
--- IsClass w d v      == some assignment of degree at most d has the class v
-use Rattle.std.specs.Prelude.{◌≡◌, Contains, ℕ, zero, suc, ◌+◌, ◌-◌, ◌*◌, ℤ, pos, negsuc, ◌+ℤ◌, ◌*ℤ◌, List, [], ◌∷◌, map, filter, length, slice_index_or, Bool, true, false, ◌&&◌, nat_le}
+use Rattle.std.specs.Prelude.{ℕ, zero, suc, ◌+◌, ◌-◌, ◌*◌, ℤ, pos, negsuc, ◌+ℤ◌, ◌*ℤ◌, List, [], ◌∷◌, map, filter, length, slice_index_or, Bool, true, false, ◌&&◌, nat_le}
 use Rattle.std.specs.Ordering.{int_eq}
 use Rattle.std.specs.List.{flat_map}
 use Rattle.tv_spec_plane.specs.declared.records.CompactEdge.{CompactEdge}
@@ -111,8 +110,3 @@ same_vector (x ∷ u) (y ∷ v) = int_eq x y && same_vector u v
 
 abbrev pub assignments_of : Web → List ℤ → List Assignment
 assignments_of w v = filter (λ a. same_vector (class_of w a) v) (assignments w (weight (degree_of w.heights v)))
-
-pub record IsClass (w : Web) (d : ℕ) (v : List ℤ) : Type 0 where
-  pub witness : Assignment
-  pub listed : Contains (assignments w d) witness
-  pub same : class_of w witness ≡ v
