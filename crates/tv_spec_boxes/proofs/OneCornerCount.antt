@@ -1,5 +1,5 @@
 -- The signed count of a web of one triangle is the count of its corner, with the sign of the exponent.
-use Rattle.std.proofs.Common.{◌≡◌, ℕ, suc, ◌+◌, ◌-◌, ◌%◌, ◌<◌, ℤ, pos, negsuc, neg_ℤ, ◌+ℤ◌, List, [], ◌∷◌, ◌++◌, map, length, cond, Bool, true, false, refl, ap, ◌∙◌, arith, zero-add, nat_eq}
+use Rattle.std.proofs.Common.{◌≡◌, ℕ, suc, ◌+◌, ◌-◌, ◌%◌, ◌<◌, ℤ, pos, negsuc, ◌+ℤ◌, List, [], ◌∷◌, ◌++◌, map, length, cond, Bool, true, false, refl, ap, ◌∙◌, arith, zero-add, nat_eq}
 use Rattle.std.proofs.lemmas.Int.{ints}
 use Rattle.std.proofs.lemmas.Bool.Decides.{nat_tests}
 use Rattle.std.specs.List.{flat_map}
@@ -11,7 +11,7 @@ use Rattle.tv_cells.specs.Costs.{overlap_cost, overlaps}
 use Rattle.tv_cells.specs.Extras.{is_extras, extent, count}
 use Rattle.tv_spec_boxes.specs.Assignments.{all_legs, no_legs, zeros, assignments, choices, assignments_of, edge_costs, edge_twist, overlaps_of, weight}
 use Rattle.tv_spec_boxes.specs.Configurations.{extras_of, fillings, configuration, configurations, configuration_sign, boxes_left, chi_of, total, signed_count}
-use Rattle.tv_spec_boxes.specs.OneCorner.{IsOneCorner, empty_legs}
+use Rattle.tv_spec_boxes.specs.OneCorner.{IsOneCorner, empty_legs, with_sign, corner_coefficient}
 use Rattle.tv_spec_boxes.proofs.OneCornerWeb.{IsBare, one_corner_bare}
 use Rattle.tv_spec_boxes.proofs.Sums.{flat_map-none, flat_map-one, flat_map-last, Each, Each-map, Each-filter, Each-onto, sublists_of-length, total-ones, total-minus, total-append-nil}
 
@@ -74,25 +74,25 @@ signs : (w : Web) → IsBare w → (n : ℕ) → Each (λ c. configuration_sign 
 signs w h n = Each-map (λ c. configuration_sign w (no_legs w) c ≡ sign (pos n)) (configuration []) _ (Each-map (λ cs. configuration_sign w (no_legs w) (configuration [] cs) ≡ sign (pos n)) alone _
     (Each-onto (λ cells. length cells ≡ n) (λ cells. configuration_sign w (no_legs w) (configuration [] (alone cells)) ≡ sign (pos n)) (sign_alone w h n) _ (Each-filter (λ cells. length cells ≡ n) (is_extras empty_legs) _ (sublists_of-length n (cube (n + extent empty_legs))))))
 
--- n with the sign of the parity
-abbrev pub signed : Bool → ℕ → ℤ
-signed even n = cond even (pos n) (neg_ℤ (pos n))
-
 pub length-map : {A B : Type 0} (f : A → B) (xs : List A) → length (map f xs) ≡ length xs
 length-map f [] = refl
 length-map f (x ∷ xs) = ap suc (length-map f xs)
 
-total-signed : {A : Type 0} (f : A → ℤ) (even : Bool) (xs : List A) → Each (λ x. f x ≡ cond even (pos 1) (negsuc 0)) xs → total f xs ≡ signed even (length xs)
-total-signed f true xs h = total-ones f xs h
-total-signed f false xs h = total-minus f xs h
+total-with_sign : {A : Type 0} (f : A → ℤ) (even : Bool) (xs : List A) → Each (λ x. f x ≡ cond even (pos 1) (negsuc 0)) xs → total f xs ≡ with_sign even (length xs)
+total-with_sign f true xs h = total-ones f xs h
+total-with_sign f false xs h = total-minus f xs h
 
-pub one_corner_count : (w : Web) → IsOneCorner w → (n : ℕ) → signed_count w (no_legs w) (zeros 3) (pos n) ≡ signed (nat_eq (n % 2) 0) (count empty_legs n)
+pub one_corner_count : (w : Web) → IsOneCorner w → (n : ℕ) → signed_count w (no_legs w) (zeros 3) (pos n) ≡ with_sign (nat_eq (n % 2) 0) (count empty_legs n)
 unfolding signed_count count
 one_corner_count w one n = let h = one_corner_bare w one in
     rw (list_of w h n) (total-append-nil (configuration_sign w (no_legs w)) (map (configuration []) (map alone (extras_of empty_legs n n)))
-    ∙ (total-signed (configuration_sign w (no_legs w)) (nat_eq (n % 2) 0) _ (signs w h n)
-    ∙ ap (signed (nat_eq (n % 2) 0)) (length-map (configuration []) (map alone (extras_of empty_legs n n)) ∙ length-map alone (extras_of empty_legs n n))))
+    ∙ (total-with_sign (configuration_sign w (no_legs w)) (nat_eq (n % 2) 0) _ (signs w h n)
+    ∙ ap (with_sign (nat_eq (n % 2) 0)) (length-map (configuration []) (map alone (extras_of empty_legs n n)) ∙ length-map alone (extras_of empty_legs n n))))
 
 pub one_corner_below : (w : Web) → IsOneCorner w → (n : ℕ) → signed_count w (no_legs w) (zeros 3) (negsuc n) ≡ pos 0
 unfolding signed_count total
 one_corner_below w one n = let h = one_corner_bare w one in rw (only_of_class w h, left w h (negsuc n)) refl
+
+pub one_corner_coefficient : (w : Web) → IsOneCorner w → (n : ℤ) → signed_count w (no_legs w) (zeros 3) n ≡ corner_coefficient n
+one_corner_coefficient w one (pos n) = one_corner_count w one n
+one_corner_coefficient w one (negsuc n) = one_corner_below w one n
