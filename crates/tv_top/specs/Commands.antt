@@ -1,0 +1,21 @@
+-- The word lists of the commands.
+--
+-- IsOrder z      == a number from -64 to 64
+-- series_words N == the words `series full 0 N`
+-- IsCommand ws   == the words of some command
+use Rattle.std.specs.Prelude.{◌≡◌, ℕ, ℤ, pos, negsuc, ◌≤ℤ◌, List, [], ◌∷◌, codes}
+use Rattle.tv_spec_text.specs.Lines.{Word, spelled}
+
+pub record IsOrder (z : ℤ) : Type 0 where
+  pub low : negsuc 63 ≤ℤ z
+  pub high : z ≤ℤ pos 64
+
+abbrev pub series_words : ℤ → List Word
+series_words upto = codes "series" ∷ codes "full" ∷ codes "0" ∷ spelled upto ∷ []
+
+pub record IsSeries (ws : List Word) (upto : ℤ) : Type 0 where
+  pub order : IsOrder upto
+  pub same : ws ≡ series_words upto
+
+abbrev pub IsCommand : List Word → Type 0
+IsCommand ws = (upto : ℤ) × IsSeries ws upto

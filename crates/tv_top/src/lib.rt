@@ -1,0 +1,5 @@
+//! The commands of the program: words and bytes in, a report or one refusal out. It reads only from the source and
+//! writes only to the sink that it is lent.
+#![tactic(auto)]
+
+pub mod command;
