@@ -1,0 +1,10 @@
+use Rattle.std.proofs.Common.{◌-◌, length}
+use Rattle.tv_outside.proofs.WriteSteps.{WritesSoFar}
+use Rattle.tv_outside.proofs.writing.write_all.Given as goal
+
+abbrev pub invariant-writes : goal.invariant-writes
+invariant-writes g l =
+    WritesSoFar (g.K.Sink.taken l.initial.sink) (g.K.Sink.taken l.sink) (g.K.Sink.faults l.initial.sink) (g.K.Sink.faults l.sink) l.text l.done
+
+abbrev pub decreases-writes : goal.decreases-writes
+decreases-writes g l = length l.text - l.done

@@ -1,0 +1,21 @@
+-- Counts, and what one call does to a count of faults.
+--
+-- last_count              == the number at which a count stops
+-- next_count n            == n counted one further
+-- Rose before now         == a count rose, or stands at its last number
+-- HasCause before now r   == a count of faults stays where r is Ok, and rose where r is an error
+use Rattle.std.specs.Prelude.{◌≡◌, ℕ, ◌+◌, ◌-◌, ◌^◌, ◌≤◌, min, Result, OnOk, OnErr}
+
+abbrev pub last_count : ℕ
+last_count = 2 ^ 64 - 1
+
+abbrev pub next_count : ℕ → ℕ
+next_count n = min (n + 1) last_count
+
+abbrev pub Rose : ℕ → ℕ → Type 0
+Rose before now = next_count before ≤ now
+
+pub record HasCause {A E : Type 0} (before now : ℕ) (result : Result A E) : Type 0 where
+  pub later : before ≤ now
+  pub kept : OnOk result (now ≡ before)
+  pub failed : OnErr result (Rose before now)
