@@ -1,1 +1,5 @@
 mod Values
+pub mod Rising
+pub mod Downward
+pub mod Sublists
+pub mod Cubes

@@ -1,4 +1,5 @@
 pub mod Cells
 pub mod Extras
 pub mod Costs
+pub mod Laws
 pub use Rattle.tv_partition.specs.Rows

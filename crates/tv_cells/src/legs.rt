@@ -1,6 +1,9 @@
 //! The three legs of a corner. The leg along z has the cells (x, y) of its diagram at every z, that along y the cells
 //! (x, z), and that along x the cells (y, z).
 
+ghost use Rattle.tv_partition.specs.Rows.{IsSmall};
+ghost use Rattle.tv_cells.specs.Extras.{AreDiagrams};
+
 use tv_partition::diagram::Diagram;
 
 #[derive(Drop, Debug)]
@@ -8,4 +11,18 @@ pub struct Legs {
     pub along_x: Diagram,
     pub along_y: Diagram,
     pub along_z: Diagram,
+}
+
+impl Legs {
+    /// Tells that each leg is a diagram of at most 24 cells, and does nothing.
+    pub fn known(&self)
+        ensures diagrams { AreDiagrams self.now }
+        ensures along_x { IsSmall self.now.along_x }
+        ensures along_y { IsSmall self.now.along_y }
+        ensures along_z { IsSmall self.now.along_z }
+    {
+        let _ = self.along_x.rows();
+        let _ = self.along_y.rows();
+        let _ = self.along_z.rows();
+    }
 }

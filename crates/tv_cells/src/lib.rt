@@ -2,4 +2,9 @@
 #![tactic(auto)]
 
 pub mod cell;
+pub mod extras;
+pub mod laws;
 pub mod legs;
+pub mod order;
+#[cfg(test)]
+mod tests;

@@ -1,8 +1,10 @@
 //! A diagram of at most 24 cells, as the list of its rows. Row i is the number of cells whose first entry is i.
 
-ghost use Rattle.std.specs.Prelude.{List, ℕ};
-ghost use Rattle.tv_partition.specs.Rows.{IsSmall};
+ghost use Rattle.std.specs.Prelude.{◌≡◌, ℕ, ◌≤◌, ◌↔◌, List, [], IsSome, IfSome};
+ghost use Rattle.tv_partition.specs.Rows.{IsSmall, size, has};
 
+use crate::shape;
+use std::alloc::Global;
 use std::marker::Model;
 
 #[derive(Drop, Debug)]
@@ -16,4 +18,47 @@ impl Model for Diagram {
     ghost view = { λ d. d.rows.items };
 
     ghost invariant = { λ d. IsSmall d.rows.items };
+}
+
+impl Diagram {
+    /// The diagram with these rows, the row of first entry 0 first.
+    pub fn new(rows: Vec<u32>) -> Option<Diagram>
+        ensures exists { IsSome result ↔ IsSmall rows.items }
+        ensures value { IfSome result (λ d. d ≡ rows.items) }
+    {
+        if shape::is_small(rows.as_slice()) {
+            Some(Diagram { rows })
+        } else {
+            None
+        }
+    }
+
+    /// The diagram without cells. It takes no memory.
+    pub fn empty(alloc: Global) -> Diagram
+        ensures { result ≡ [] }
+    {
+        Diagram {
+            rows: Vec::new(alloc),
+        }
+    }
+
+    pub fn rows(&self) -> &[u32]
+        ensures value { result.now ≡ self.now }
+        ensures small { IsSmall self.now }
+    {
+        self.rows.as_slice()
+    }
+
+    pub fn size(&self) -> u32
+        ensures value { result ≡ size self.now }
+        ensures bound { result ≤ 24 }
+    {
+        shape::size(self.rows.as_slice())
+    }
+
+    pub fn contains(&self, i: u32, j: u32) -> bool
+        ensures { result ≡ has self.now i j }
+    {
+        shape::has(self.rows.as_slice(), i, j)
+    }
 }

@@ -2,3 +2,6 @@
 #![tactic(auto)]
 
 pub mod diagram;
+mod shape;
+#[cfg(test)]
+mod tests;

@@ -1,0 +1,63 @@
+-- The sublists of n members are those of that length among all sublists.
+use Rattle.std.proofs.Common.{◌≡◌, ℕ, suc, zero, Bool, true, false, ◌&&◌, List, [], ◌∷◌, ◌++◌, map, length, nat_eq, arith, refl, ◌∙◌, ap}
+use Rattle.std.specs.Prelude.{filter, cond}
+use Rattle.std.proofs.lemmas.Bool.Decides.{nat_tests}
+use Rattle.tv_cells.specs.declared.cell.Cell.{Cell}
+use Rattle.tv_cells.specs.declared.legs.Legs.{Legs}
+use Rattle.tv_cells.specs.Cells.{sublists, sublists_of}
+use Rattle.tv_cells.specs.Extras.{is_extras}
+
+pub filter-append : (p : List Cell → Bool) (xs ys : List (List Cell)) → filter p (xs ++ ys) ≡ filter p xs ++ filter p ys
+filter-append p [] ys = refl
+filter-append p (x ∷ xs) ys =
+    let rest = filter-append p xs ys in
+    elim (p x) as (λ b. cond b (x ∷ filter p (xs ++ ys)) (filter p (xs ++ ys)) ≡ cond b (x ∷ filter p xs) (filter p xs) ++ filter p ys) [
+      | true ↦ ap (λ zs. x ∷ zs) rest
+      | false ↦ rest
+    ]
+
+pub filter-map : (p q : List Cell → Bool) (f : List Cell → List Cell) → ((s : List Cell) → p (f s) ≡ q s) → (xs : List (List Cell)) → filter p (map f xs) ≡ map f (filter q xs)
+filter-map p q f same [] = refl
+filter-map p q f same (x ∷ xs) =
+    let rest = filter-map p q f same xs in
+    rw (same x) (elim (q x) as (λ b. cond b (f x ∷ filter p (map f xs)) (filter p (map f xs)) ≡ map f (cond b (x ∷ filter q xs) (filter q xs))) [
+      | true ↦ ap (λ zs. f x ∷ zs) rest
+      | false ↦ rest
+    ])
+
+pub filter-none : (p : List Cell → Bool) → ((s : List Cell) → p s ≡ false) → (xs : List (List Cell)) → filter p xs ≡ []
+filter-none p none [] = refl
+filter-none p none (x ∷ xs) = rw (none x) (filter-none p none xs)
+
+filter_and_head : (p q : List Cell → Bool) (x : List Cell) (both passed : List (List Cell)) (b c : Bool) → p x ≡ b → both ≡ filter p passed → cond (b && c) (x ∷ both) both ≡ filter p (cond c (x ∷ passed) passed)
+filter_and_head p q x both passed true true e rest = rw e (ap (λ zs. x ∷ zs) rest)
+filter_and_head p q x both passed false true e rest = rw e rest
+filter_and_head p q x both passed true false e rest = rest
+filter_and_head p q x both passed false false e rest = rest
+
+filter-and : (p q : List Cell → Bool) (xs : List (List Cell)) → filter (λ s. p s && q s) xs ≡ filter p (filter q xs)
+filter-and p q [] = refl
+filter-and p q (x ∷ xs) = filter_and_head p q x (filter (λ s. p s && q s) xs) (filter q xs) (p x) (q x) refl (filter-and p q xs)
+
+pub by_length : (n : ℕ) (cells : List Cell) → filter (λ s. nat_eq (length s) n) (sublists cells) ≡ sublists_of n cells
+unfolding sublists sublists_of
+by_length zero [] = refl
+by_length (suc n) [] = let off : nat_eq 0 (suc n) ≡ false = grind (arith, nat_tests) in rw off refl
+by_length zero (c ∷ cells) =
+    filter-append (λ s. nat_eq (length s) 0) (map (λ s. c ∷ s) (sublists cells)) (sublists cells)
+    ∙ rw (
+      filter-map (λ s. nat_eq (length s) 0) (λ s. false) (λ s. c ∷ s) (λ s. grind (arith, nat_tests)) (sublists cells),
+      filter-none (λ s. false) (λ s. refl) (sublists cells),
+    )
+    (by_length zero cells)
+by_length (suc n) (c ∷ cells) =
+    filter-append (λ s. nat_eq (length s) (suc n)) (map (λ s. c ∷ s) (sublists cells)) (sublists cells)
+    ∙ rw (
+      filter-map (λ s. nat_eq (length s) (suc n)) (λ s. nat_eq (length s) n) (λ s. c ∷ s) (λ s. grind (arith, nat_tests)) (sublists cells),
+      by_length n cells,
+      by_length (suc n) cells,
+    )
+    refl
+
+pub extras_by_length : (legs : Legs) (n : ℕ) (cells : List Cell) → filter (λ s. is_extras legs s && nat_eq (length s) n) (sublists cells) ≡ filter (is_extras legs) (sublists_of n cells)
+extras_by_length legs n cells = filter-and (is_extras legs) (λ s. nat_eq (length s) n) (sublists cells) ∙ ap (filter (is_extras legs)) (by_length n cells)

@@ -1,0 +1,65 @@
+//! Cells beside three legs of one cell, and lists that are and are not extras.
+
+use crate::cell::Cell;
+use crate::legs::Legs;
+use crate::{extras, order};
+use std::alloc::Global;
+use std::test::Fail;
+use tv_partition::diagram::Diagram;
+
+fn diagram(alloc: Global, rows: &[u32]) -> Result<Diagram, Fail> {
+    Ok(Diagram::new(rows.to_vec(alloc)?).ok_or("a diagram")?)
+}
+
+fn cell(x: u32, y: u32, z: u32) -> Cell {
+    Cell { x, y, z }
+}
+
+#[test]
+fn counts_the_legs_of_a_cell(rt: HostRuntime) -> Result<(), Fail> {
+    let legs = Legs {
+        along_x: diagram(rt.alloc(), &[1])?,
+        along_y: diagram(rt.alloc(), &[2])?,
+        along_z: diagram(rt.alloc(), &[1, 1])?,
+    };
+    for (c, want) in [
+        (cell(0, 0, 0), 3),
+        (cell(7, 0, 0), 1),
+        (cell(0, 7, 1), 1),
+        (cell(1, 0, 7), 1),
+        (cell(0, 1, 7), 0),
+    ] {
+        assert_eq!(rt; extras::in_leg(&legs, c), want, "{c:?}");
+    }
+    legs.known();
+    Ok(())
+}
+
+#[test]
+fn takes_rising_extras_alone(rt: HostRuntime) -> Result<(), Fail> {
+    let legs = Legs {
+        along_x: diagram(rt.alloc(), &[1])?,
+        along_y: Diagram::empty(rt.alloc()),
+        along_z: Diagram::empty(rt.alloc()),
+    };
+    let good = [cell(0, 0, 1), cell(0, 1, 0), cell(0, 1, 1)];
+    assert!(rt; extras::valid(&legs, &good));
+    assert!(rt; extras::valid(&legs, &[]));
+    assert!(rt; extras::is_extras(&legs, &[good[1], good[0]]));
+    assert!(rt; extras::stands(&legs, &[], cell(0, 0, 1)));
+    assert!(rt; extras::rests_along_x(&legs, &good, cell(1, 0, 1)));
+    assert!(rt; extras::rests_along_y(&legs, &good, cell(0, 2, 0)));
+    assert!(rt; extras::rests_along_z(&legs, &good, cell(0, 0, 2)));
+    assert!(rt; extras::in_union(&legs, &good, cell(9, 0, 0)));
+    assert!(rt; order::contains(&good, good[2]));
+    for bad in [
+        &[good[1], good[0]][..],
+        &[good[0], good[0]],
+        &[cell(0, 0, 0)],
+        &[good[0], good[2]],
+        &[cell(1, 0, 1)],
+    ] {
+        assert!(rt; !extras::valid(&legs, bad), "{bad:?}");
+    }
+    Ok(())
+}
