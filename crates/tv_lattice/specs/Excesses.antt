@@ -2,10 +2,16 @@
 --
 -- IsExcess w e == e is the first limit that w passes, in the order points, triangles, coordinates, heights; of a
 --                 coordinate or a height the least number of a point or a height over it
-use Rattle.std.specs.Prelude.{◌≡◌, ◌<◌, ◌≤◌, length, take, slice_index_or, pos}
+-- IsFirstHeight hs k == k is the least number of a height over its limit
+-- IsPointFault ps e  == e names the least number of a point with a coordinate over its limit, or is want of memory
+-- IsLimitFault w e   == e is the first limit that w passes, or want of memory
+use Rattle.std.specs.Prelude.{◌≡◌, ℕ, ◌<◌, ◌≤◌, ℤ, List, length, take, slice_index_or, pos, ⊤}
 use Rattle.std.specs.List.{AllByRecursion}
-use Rattle.tv_spec_plane.specs.Plane.{at}
+use Rattle.tv_spec_plane.specs.Plane.{Point, at}
 use Rattle.tv_spec_plane.specs.Web.{Web}
+use Rattle.tv_lattice.specs.declared.fault.InputError.{InputError}
+use Rattle.tv_lattice.specs.declared.fault.InputError.TheVariants.{Fault, Memory}
+use Rattle.tv_lattice.specs.declared.fault.FileFault.TheVariants.{TooMany}
 use Rattle.tv_lattice.specs.declared.fault.Excess.{Excess}
 use Rattle.tv_lattice.specs.declared.fault.Excess.TheVariants.{Points, Triangles, Coordinate, Height}
 use Rattle.tv_lattice.specs.Limits.{IsHeight, HasCoordinates}
@@ -18,3 +24,16 @@ IsExcess w (Points n) = (n ≡ length w.points) × (64 < n)
 IsExcess w (Triangles n) = (length w.points ≤ 64) × (n ≡ length w.triangles) × (128 < n)
 IsExcess w (Coordinate i) = HasCounts w × (i < length w.points) × AllByRecursion HasCoordinates (take i w.points) × (HasCoordinates (at w.points i) → ⊥)
 IsExcess w (Height k) = HasCounts w × AllByRecursion HasCoordinates w.points × (k < length w.heights) × AllByRecursion IsHeight (take k w.heights) × (IsHeight (slice_index_or w.heights k (pos 0)) → ⊥)
+
+abbrev pub IsFirstHeight : List ℤ → ℕ → Type 0
+IsFirstHeight hs k = (k < length hs) × AllByRecursion IsHeight (take k hs) × (IsHeight (slice_index_or hs k (pos 0)) → ⊥)
+
+abbrev pub IsPointFault : List Point → InputError → Type 0
+IsPointFault ps (Fault (TooMany (Coordinate i))) = (i < length ps) × AllByRecursion HasCoordinates (take i ps) × (HasCoordinates (at ps i) → ⊥)
+IsPointFault ps (Fault _) = ⊥
+IsPointFault ps Memory = ⊤
+
+abbrev pub IsLimitFault : Web → InputError → Type 0
+IsLimitFault w (Fault (TooMany e)) = IsExcess w e
+IsLimitFault w (Fault _) = ⊥
+IsLimitFault w Memory = ⊤

@@ -38,3 +38,25 @@ pub enum InputError {
     #[error("out of memory")]
     Memory,
 }
+
+impl<T: Drop> From<AllocFailed<T>> for InputError {
+    ghost use Rattle.tv_lattice.specs.declared.fault.InputError.TheVariants.{Memory};
+    ghost use Rattle.std.specs.Prelude.{◌≡◌};
+
+    ghost from_gives = { λ _ e. e ≡ Memory };
+
+    fn from(_e: AllocFailed<T>) -> InputError {
+        InputError::Memory
+    }
+}
+
+impl From<AllocError> for InputError {
+    ghost use Rattle.tv_lattice.specs.declared.fault.InputError.TheVariants.{Memory};
+    ghost use Rattle.std.specs.Prelude.{◌≡◌};
+
+    ghost from_gives = { λ _ e. e ≡ Memory };
+
+    fn from(_e: AllocError) -> InputError {
+        InputError::Memory
+    }
+}

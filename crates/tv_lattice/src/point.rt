@@ -1,5 +1,8 @@
 //! A point within the limits of coordinates. Points do not know whether they are listed twice.
 
+ghost use Rattle.std.specs.Prelude.{◌≡◌, ◌↔◌, IsTrue, MatchOption};
+ghost use Rattle.tv_lattice.specs.Limits.{IsCoordinate};
+
 use std::marker::Model;
 
 #[derive(Clone, Copy, Debug, PartialEq, Eq)]
@@ -19,4 +22,39 @@ impl Model for Point {
     ghost invariant = { λ p. IsCoordinate p.x × IsCoordinate p.y };
 
     ghost inverse = { λ p. record { x = p.x; y = p.y } };
+}
+
+impl Point {
+    /// The point, or None where a coordinate is beyond 100 in absolute value.
+    pub fn new(x: i64, y: i64) -> Option<Point>
+        ensures { MatchOption result (IsCoordinate x × IsCoordinate y → ⊥) (λ p. (p ≡ record { x = x; y = y }) × IsCoordinate x × IsCoordinate y) }
+    {
+        if !is_coordinate(x) {
+            return None;
+        }
+        if !is_coordinate(y) {
+            return None;
+        }
+        Some(Point { x, y })
+    }
+
+    pub fn x(&self) -> i64
+        ensures value { result ≡ self.now.x }
+        ensures small { IsCoordinate result }
+    {
+        self.x
+    }
+
+    pub fn y(&self) -> i64
+        ensures value { result ≡ self.now.y }
+        ensures small { IsCoordinate result }
+    {
+        self.y
+    }
+}
+
+fn is_coordinate(z: i64) -> bool
+    ensures { IsTrue result ↔ IsCoordinate z }
+{
+    z.unsigned_abs() <= 100
 }
