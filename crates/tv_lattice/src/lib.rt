@@ -5,5 +5,6 @@ pub mod excess;
 pub mod fault;
 pub mod file;
 pub mod point;
+pub mod turn;
 
 pub use tv_spec_plane::records::{RawPoint, Triple};

@@ -1,6 +1,7 @@
 //! A point within the limits of coordinates. Points do not know whether they are listed twice.
 
 ghost use Rattle.std.specs.Prelude.{◌≡◌, ◌↔◌, IsTrue, MatchOption};
+ghost use Rattle.tv_spec_plane.specs.Plane.{at};
 ghost use Rattle.tv_lattice.specs.Limits.{IsCoordinate};
 
 use std::marker::Model;
@@ -50,6 +51,16 @@ impl Point {
         ensures small { IsCoordinate result }
     {
         self.y
+    }
+}
+
+/// Point i of the list, or the origin past its end.
+pub fn at(points: &[Point], i: u32) -> Point
+    ensures { result ≡ at points.now i }
+{
+    match points.get(i as usize) {
+        Some(point) => *point,
+        None => Point { x: 0, y: 0 },
     }
 }
 
