@@ -1,2 +1,4 @@
 pub mod Commands
+pub mod Acceptance
 pub mod SeriesReport
+pub mod Status

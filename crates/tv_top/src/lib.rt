@@ -2,4 +2,9 @@
 //! writes only to the sink that it is lent.
 #![tactic(auto)]
 
-pub mod command;
+mod command;
+mod corner;
+mod status;
+
+pub use command::{Command, WordsError};
+pub use status::Status;
