@@ -27,16 +27,22 @@ impl Model for MemSink {
 
     ghost Value = { Store };
 
-    ghost view = { λ s. record { taken = s.bytes.items; room = s.room; piece = s.piece; schedule = s.schedule } };
+    ghost view = { λ s. record {
+      taken = s.bytes.items;
+      room = s.room;
+      piece = s.piece;
+      schedule = s.schedule;
+    } };
 
-    ghost invariant = { λ s. (vec_len s.bytes ≤ s.room) × (s.room ≤ vec_capacity s.bytes) × (1 ≤ s.piece) };
+    ghost invariant = { λ s. (vec_len s.bytes ≤ s.room) × (s.room ≤ vec_capacity s.bytes)
+        × (1 ≤ s.piece) };
 }
 
 impl MemSink {
     /// A sink with memory for `room` bytes, all taken here, that takes at most `piece` of them in a write.
     ///
-    /// The write with the number k, counted from 0, fails where k is in `fails`. Numbers stop at `u64::MAX`, and a
-    /// write with that number fails only for want of room.
+    /// The write with the number k, counted from 0, fails where k is in `fails`. Numbers stop at
+    /// `u64::MAX`, and a write with that number fails only for want of room. An empty piece needs none.
     pub fn new(
         alloc: Global,
         room: usize,

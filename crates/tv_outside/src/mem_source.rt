@@ -27,7 +27,11 @@ impl Model for MemSource {
 
     ghost Value = { Supply };
 
-    ghost view = { λ s. record { left = drop s.position s.bytes.items; piece = s.piece; schedule = s.schedule } };
+    ghost view = { λ s. record {
+      left = drop s.position s.bytes.items;
+      piece = s.piece;
+      schedule = s.schedule;
+    } };
 
     ghost invariant = { λ s. (s.position ≤ vec_len s.bytes) × (1 ≤ s.piece) };
 }
@@ -35,8 +39,8 @@ impl Model for MemSource {
 impl MemSource {
     /// A source of `bytes` that gives at most `piece` of them in a read.
     ///
-    /// The read with the number k, counted from 0, fails where k is in `fails`. Numbers stop at `u64::MAX`, and a
-    /// read with that number never fails.
+    /// The read with the number k, counted from 0, fails where k is in `fails`. Numbers stop at
+    /// `u64::MAX`, and a read with that number never fails.
     pub fn new(bytes: Vec<u8>, piece: usize, fails: Vec<u64>) -> MemSource
         requires { 1 ≤ piece }
         ensures { result ≡ first_supply bytes.items piece fails.items }

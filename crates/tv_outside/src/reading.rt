@@ -30,7 +30,8 @@ const CHUNK: usize = 4096;
 /// Where it answers an error, the bytes that its reads took are gone. It never takes more than `limit + 1`.
 pub fn read_all<S: Source>(alloc: Global, source: &mut S, limit: usize) -> Result<Vec<u8>, ReadEnd>
     requires { limit < 2 ^ 32 }
-    ensures { Takes (S.left source.old) (S.left source.new) (S.faults source.old) (S.faults source.new) limit result }
+    ensures { Takes (S.left source.old) (S.left source.new)
+        (S.faults source.old) (S.faults source.new) limit result }
 {
     let mut bytes = Vec::new(alloc);
     let mut buffer = [0; CHUNK];

@@ -1,10 +1,10 @@
 //! A sink over std's `Write`: the edge where bytes go outside.
 //! It tells nothing of the bytes that were taken, and it keeps none back, since it flushes after each write.
 
-ghost use Rattle.std.specs.Prelude.{◌≡◌, ◌<◌, None, length, is_ok, IfOk, if◌then◌else◌};
+ghost use Rattle.std.specs.Prelude.{◌≡◌, ◌<◌, None, length, IfOk};
 ghost use Rattle.std.specs.Io.{WritesAtMost};
 ghost use Rattle.std.specs.Io.KnownBytes.{WriteAppends};
-ghost use Rattle.tv_outside.specs.Faults.{next_count, HasCause};
+ghost use Rattle.tv_outside.specs.Faults.{count_after, HasCause};
 ghost use Rattle.tv_outside.specs.Edge.{writer_of, write_faults, Passes};
 
 use crate::{Failed, Sink};
@@ -32,16 +32,17 @@ impl<W: Write> Sink for StdSink<W> {
 
     ghost taken = { λ _. None };
 
-    /// A fault is an error of the writer, a flush that fails, or a write of a piece that is not empty which takes 0
-    /// bytes.
+    /// A fault is an error of the writer, a flush that fails, or a write of a piece that is not
+    /// empty which takes 0 bytes.
     fn write(&mut self, piece: &[u8]) -> Result<usize, Failed>
         ensures bound { WritesAtMost result piece.now }
         ensures progress { IfOk result (λ n. 0 < length piece.now → 0 < n) }
         ensures bytes { WriteAppends None None result piece.now }
         ensures cause { HasCause (write_faults self.old) (write_faults self.new) result }
 
-        ensures counted { write_faults self.new ≡ (if is_ok result then write_faults self.old else next_count (write_faults self.old)) }
-        ensures passed { Passes (W.contents (writer_of self.old)) (W.contents (writer_of self.new)) result piece.now }
+        ensures counted { write_faults self.new ≡ count_after (write_faults self.old) result }
+        ensures passed { Passes (W.contents (writer_of self.old))
+            (W.contents (writer_of self.new)) result piece.now }
     {
         match write_through(&mut self.writer, piece) {
             Ok(count) if count > 0 || piece.is_empty() => Ok(count),

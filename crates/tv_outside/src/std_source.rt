@@ -1,10 +1,10 @@
 //! A source over std's `Read`: the edge where bytes come in from outside.
 //! It tells nothing of the bytes that are left, and it never reads again after a fault by itself.
 
-ghost use Rattle.std.specs.Prelude.{◌≡◌, None, is_ok, if◌then◌else◌};
+ghost use Rattle.std.specs.Prelude.{◌≡◌, None};
 ghost use Rattle.std.specs.Io.{ReadsAtMost};
 ghost use Rattle.std.specs.Io.KnownBytes.{ReadConsumes};
-ghost use Rattle.tv_outside.specs.Faults.{next_count, HasCause};
+ghost use Rattle.tv_outside.specs.Faults.{count_after, HasCause};
 ghost use Rattle.tv_outside.specs.Edge.{reader_of, read_faults};
 
 use crate::{Failed, Source};
@@ -37,8 +37,9 @@ impl<R: Read> Source for StdSource<R> {
         ensures bytes { ReadConsumes None None result buf.new }
         ensures cause { HasCause (read_faults self.old) (read_faults self.new) result }
 
-        ensures counted { read_faults self.new ≡ (if is_ok result then read_faults self.old else next_count (read_faults self.old)) }
-        ensures passed { ReadConsumes (R.remaining (reader_of self.old)) (R.remaining (reader_of self.new)) result buf.new }
+        ensures counted { read_faults self.new ≡ count_after (read_faults self.old) result }
+        ensures passed { ReadConsumes (R.remaining (reader_of self.old))
+            (R.remaining (reader_of self.new)) result buf.new }
     {
         match self.reader.read(buf) {
             Ok(count) => Ok(count),
