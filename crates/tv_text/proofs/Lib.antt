@@ -1,0 +1,5 @@
+mod BadLines
+mod Decimals
+mod Parts
+mod Reading
+mod Spellings

@@ -1,0 +1,4 @@
+pub mod Rows
+pub mod Stages
+pub mod Drafts
+pub mod Faults

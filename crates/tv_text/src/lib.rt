@@ -1,0 +1,10 @@
+//! The texts of the program: a file as it is read, refusals and reports as they are printed. What a file means is not
+//! looked at here, only how it is spelled and whether it is within the limits.
+#![tactic(auto)]
+
+mod draft;
+pub mod file;
+mod lines;
+pub mod number;
+mod row;
+mod stage;
