@@ -1,2 +1,3 @@
 pub mod WordPlaces
+pub mod Orders
 pub mod Terms

@@ -52,3 +52,10 @@ place_4 xs (w ∷ ws) z e h ne = rw e (record { within = omega arith; before = (
 
 pub words_of_series : (xs rest : List Word) (z : ℤ) → xs ≡ codes "series" ∷ codes "full" ∷ codes "0" ∷ spelled z ∷ rest → IsOrder z → rest ≡ [] → IsSeries xs z
 words_of_series xs rest z e h n = record { order = h; same = e ∙ ap (λ r. codes "series" ∷ codes "full" ∷ codes "0" ∷ spelled z ∷ r) n }
+
+-- words read one after another
+pub behind_one : {xs rest more : List Word} {a b : Word} → xs ≡ a ∷ rest → rest ≡ b ∷ more → xs ≡ a ∷ b ∷ more
+behind_one {a} p q = p ∙ ap (λ ws. a ∷ ws) q
+
+pub behind_two : {xs rest more last : List Word} {a b c : Word} → xs ≡ a ∷ rest → rest ≡ b ∷ more → more ≡ c ∷ last → xs ≡ a ∷ b ∷ c ∷ last
+behind_two p q r = behind_one p (behind_one q r)

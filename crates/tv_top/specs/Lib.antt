@@ -1,4 +1,5 @@
 pub mod Commands
 pub mod Acceptance
+pub mod Rejections
 pub mod SeriesReport
 pub mod Status

@@ -2,9 +2,11 @@
 //! writes only to the sink that it is lent.
 #![tactic(auto)]
 
+mod acceptance;
 mod command;
 mod corner;
 mod status;
 
-pub use command::{Command, WordsError};
+pub use acceptance::{AcceptError, MAX_BYTES, Rejection, accept};
+pub use command::{Command, WordsError, parse_words};
 pub use status::Status;
