@@ -1,3 +1,4 @@
 pub mod WordPlaces
 pub mod Orders
 pub mod Terms
+pub mod Completeness

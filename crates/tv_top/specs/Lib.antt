@@ -1,5 +1,9 @@
 pub mod Commands
 pub mod Acceptance
 pub mod Rejections
+pub mod RejectionLines
 pub mod SeriesReport
 pub mod Status
+pub mod Answers
+pub mod Replies
+pub mod Completeness

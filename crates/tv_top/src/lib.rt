@@ -5,7 +5,9 @@
 mod acceptance;
 mod command;
 mod corner;
+mod reply;
 mod status;
+mod telling;
 
 pub use acceptance::{AcceptError, MAX_BYTES, Rejection, accept};
 pub use command::{Command, WordsError, parse_words};

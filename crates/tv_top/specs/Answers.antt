@@ -1,0 +1,112 @@
+-- What a run answers: for each status what is deserved, and how the text was told.
+--
+-- Inputs, Outputs         == the bytes that a source, or a sink, tells before and after, and its counts of faults
+-- memory_text, read_text  == the texts of want of memory and of a failed read
+-- Gave io bytes           == these bytes were taken from the source, and where it tells its bytes, none are left
+-- Deserves ws io status text == the status and its text are deserved by these words and this source
+-- Told old new text rose status result == a beginning of the text was appended to the sink: all of it, with the status, or
+--                             less, with WriteFault and a count of faults that rose
+-- Answers                 == some status and text are deserved, and were told
+use Rattle.std.specs.Prelude.{◌≡◌, ℕ, ◌+◌, ◌-◌, ◌^◌, ◌<◌, ◌≤◌, ◌⊎◌, ℤ, pos, List, [], ◌∷◌, length, take, Option, codes}
+use Rattle.std.specs.Io.KnownBytes.{Appends, Consumes, IsAtEnd}
+use Rattle.tv_spec_plane.specs.Web.{Web}
+use Rattle.tv_spec_text.specs.Lines.{Word, line_text, spelled}
+use Rattle.tv_spec_text.specs.Places.{IsPlace}
+use Rattle.tv_spec_boxes.specs.Assignments.{no_legs, zeros}
+use Rattle.tv_spec_boxes.specs.Numbers.{crowd}
+use Rattle.tv_outside.specs.Faults.{Rose}
+use Rattle.tv_top.specs.Commands.{IsSeries, IsCommand}
+use Rattle.tv_top.specs.Acceptance.{IsAccepted}
+use Rattle.tv_top.specs.Rejections.{IsRejected}
+use Rattle.tv_top.specs.RejectionLines.{rejection_line}
+use Rattle.tv_top.specs.SeriesReport.{IsFullReport}
+use Rattle.tv_top.specs.declared.acceptance.Rejection.{Rejection}
+use Rattle.tv_top.specs.declared.status.Status.{Status}
+use Rattle.tv_top.specs.declared.status.Status.TheVariants.{Done, Words, File, Wide, Differs, Memory, ReadFault, WriteFault}
+
+pub record Inputs : Type 0 where
+  pub before : Option (List ℕ)
+  pub after : Option (List ℕ)
+  pub faults_before : ℕ
+  pub faults_after : ℕ
+
+abbrev pub memory_text : List ℕ
+memory_text = line_text (codes "refused" ∷ codes "memory" ∷ [])
+
+abbrev pub read_text : List ℕ
+read_text = line_text (codes "refused" ∷ codes "read" ∷ [])
+
+pub record Gave (io : Inputs) (bytes : List ℕ) : Type 0 where
+  pub taken : Consumes io.before io.after bytes
+  pub ended : IsAtEnd io.after
+
+-- the report of the accepted file's series
+pub record DeservesDone (ws : List Word) (io : Inputs) (text : List ℕ) : Type 0 where
+  pub upto : ℤ
+  pub bytes : List ℕ
+  pub web : Web
+  pub asked : IsSeries ws upto
+  pub read : Gave io bytes
+  pub accepted : IsAccepted bytes web
+  pub report : IsFullReport web 0 upto text
+
+-- the place at which the words leave every word list; nothing is read
+pub record DeservesWords (ws : List Word) (io : Inputs) (text : List ℕ) : Type 0 where
+  pub place : ℕ
+  pub outside : IsPlace IsCommand ws place
+  pub unread : (io.after ≡ io.before) × (io.faults_after ≡ io.faults_before)
+  pub line : text ≡ line_text (codes "refused" ∷ codes "words" ∷ spelled (pos place) ∷ [])
+
+-- the first check that the file fails
+pub record DeservesFile (ws : List Word) (io : Inputs) (text : List ℕ) : Type 0 where
+  pub bytes : List ℕ
+  pub rejection : Rejection
+  pub asked : IsCommand ws
+  pub taken : Consumes io.before io.after bytes
+  pub ended : (length bytes ≡ 65537) ⊎ ((length bytes ≤ 65536) × IsAtEnd io.after)
+  pub rejected : IsRejected bytes rejection
+  pub line : text ≡ line_text (rejection_line rejection)
+
+-- the crowd of the zero class is beyond 2^127 - 1
+pub record DeservesWide (ws : List Word) (io : Inputs) (text : List ℕ) : Type 0 where
+  pub upto : ℤ
+  pub bytes : List ℕ
+  pub web : Web
+  pub asked : IsSeries ws upto
+  pub read : Gave io bytes
+  pub accepted : IsAccepted bytes web
+  pub wide : 2 ^ 127 - 1 < crowd web (no_legs web) 0 upto (zeros 3)
+  pub line : text ≡ line_text (codes "refused" ∷ codes "wide" ∷ codes "crowd" ∷ codes "class" ∷ codes "0" ∷ codes "0" ∷ codes "0" ∷ [])
+
+pub record DeservesRead (ws : List Word) (io : Inputs) (text : List ℕ) : Type 0 where
+  pub asked : IsCommand ws
+  pub rose : Rose io.faults_before io.faults_after
+  pub line : text ≡ read_text
+
+abbrev pub Deserves : List Word → Inputs → Status → List ℕ → Type 0
+Deserves ws io Done text = DeservesDone ws io text
+Deserves ws io Words text = DeservesWords ws io text
+Deserves ws io File text = DeservesFile ws io text
+Deserves ws io Wide text = DeservesWide ws io text
+Deserves ws io Differs text = ⊥
+Deserves ws io Memory text = text ≡ memory_text
+Deserves ws io ReadFault text = DeservesRead ws io text
+Deserves ws io WriteFault text = ⊥
+
+pub record Outputs : Type 0 where
+  pub before : Option (List ℕ)
+  pub after : Option (List ℕ)
+  pub faults_before : ℕ
+  pub faults_after : ℕ
+
+pub record Told (out : Outputs) (text : List ℕ) (status result : Status) : Type 0 where
+  pub count : ℕ
+  pub within : count ≤ length text
+  pub appended : Appends out.before out.after (take count text)
+  pub ends : ((result ≡ status) × (count ≡ length text)) ⊎ ((result ≡ WriteFault) × Rose out.faults_before out.faults_after)
+
+pub record Answers (ws : List Word) (io : Inputs) (out : Outputs) (result : Status) : Type 0 where
+  pub status : Status
+  pub text : List ℕ
+  pub deserved : Deserves ws io status text
+  pub told : Told out text status result
