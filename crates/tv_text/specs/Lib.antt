@@ -2,3 +2,6 @@ pub mod Rows
 pub mod Stages
 pub mod Drafts
 pub mod Faults
+pub mod Printed
+pub mod Refusals
+pub mod Sections

@@ -6,5 +6,8 @@ mod draft;
 pub mod file;
 mod lines;
 pub mod number;
+mod numbers;
+pub mod refusal;
 mod row;
+pub mod series;
 mod stage;

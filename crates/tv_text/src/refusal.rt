@@ -1,0 +1,92 @@
+//! The line that says why nothing is answered. Which refusal comes is decided elsewhere.
+
+ghost use Rattle.std.specs.Prelude.{◌≡◌, ◌++◌, IfOk, OnOk, string_bytes};
+ghost use Rattle.tv_spec_text.specs.Lines.{line_text};
+ghost use Rattle.tv_text.specs.Refusals.{crowd_line, excess_line, fault_line, wide_line, refusal_line};
+
+use crate::numbers::end_with_numbers;
+use std::alloc::{AllocError, Global};
+use tv_lattice::fault::{Excess, FileFault};
+
+/// A number that would be wider than 127 bits, by the class at which it is.
+#[derive(Debug, Drop)]
+pub enum WideNumber {
+    Crowd { entries: Vec<i64> },
+}
+
+/// Why nothing is answered: the words of the command from the given place on, the file, or a number too wide.
+#[derive(Debug, Drop)]
+pub enum Refusal {
+    Words(u64),
+    File(FileFault),
+    Wide(WideNumber),
+}
+
+/// The refusal's one line.
+pub fn print_refusal(alloc: Global, refusal: &Refusal) -> Result<Vec<u8>, AllocError>
+    ensures { IfOk result (λ v. v.items ≡ line_text (refusal_line refusal.now)) }
+{
+    let mut text = String::new(alloc);
+    put_refusal(&mut text, refusal)?;
+    Ok(text.into_bytes())
+}
+
+#[tactic(auto, unfolding(tv_spec_text::specs::Lines::line_text))]
+fn put_refusal(text: &mut String, refusal: &Refusal) -> Result<(), AllocError>
+    ensures { OnOk result (string_bytes text.new ≡ string_bytes text.old ++ line_text (refusal_line refusal.now)) }
+{
+    match refusal {
+        Refusal::Words(place) => writeln!(text, "refused words {place}"),
+        Refusal::File(fault) => put_fault(text, fault),
+        Refusal::Wide(wide) => put_wide(text, wide),
+    }
+}
+
+#[tactic(auto, unfolding(tv_spec_text::specs::Lines::line_text))]
+fn put_fault(text: &mut String, fault: &FileFault) -> Result<(), AllocError>
+    ensures { OnOk result (string_bytes text.new ≡ string_bytes text.old ++ line_text (fault_line fault.now)) }
+{
+    match fault {
+        FileFault::TooLong => writeln!(text, "refused file 1"),
+        FileFault::Line(line) => writeln!(text, "refused file 2 {line}"),
+        FileFault::Json => writeln!(text, "refused file 13"),
+        FileFault::TooMany(excess) => put_excess(text, excess),
+        FileFault::Repeated(i, j) => writeln!(text, "refused file 4 {i} {j}"),
+        FileFault::Index(t) => writeln!(text, "refused file 5 {t}"),
+        FileFault::Flat => writeln!(text, "refused file 6"),
+        FileFault::Area(t, doubled) => writeln!(text, "refused file 7 {t} {doubled}"),
+        FileFault::Twice(t, u) => writeln!(text, "refused file 8 {t} {u}"),
+        FileFault::Unmatched(a, b) => writeln!(text, "refused file 9 {a} {b}"),
+        FileFault::Bare(a, b) => writeln!(text, "refused file 10 {a} {b}"),
+        FileFault::HeightCount(count) => writeln!(text, "refused file 11 {count}"),
+        FileFault::Degree(a, b, degree) => writeln!(text, "refused file 12 {a} {b} {degree}"),
+    }
+}
+
+#[tactic(auto, unfolding(tv_spec_text::specs::Lines::line_text))]
+fn put_excess(text: &mut String, excess: &Excess) -> Result<(), AllocError>
+    ensures { OnOk result (string_bytes text.new ≡ string_bytes text.old ++ line_text (excess_line excess.now)) }
+{
+    match excess {
+        Excess::Points(count) => writeln!(text, "refused file 3 points {count}"),
+        Excess::Triangles(count) => writeln!(text, "refused file 3 triangles {count}"),
+        Excess::Coordinate(point) => writeln!(text, "refused file 3 coordinate {point}"),
+        Excess::Height(point) => writeln!(text, "refused file 3 height {point}"),
+    }
+}
+
+fn put_wide(text: &mut String, wide: &WideNumber) -> Result<(), AllocError>
+    ensures { OnOk result (string_bytes text.new ≡ string_bytes text.old ++ line_text (wide_line wide.now)) }
+{
+    match wide {
+        WideNumber::Crowd { entries } => put_crowd(text, entries),
+    }
+}
+
+fn put_crowd(text: &mut String, entries: &[i64]) -> Result<(), AllocError>
+    ensures { OnOk result (string_bytes text.new ≡ string_bytes text.old ++ line_text (crowd_line entries.now)) }
+{
+    write!(text, "refused wide crowd class")?;
+    end_with_numbers(text, entries)?;
+    Ok(())
+}

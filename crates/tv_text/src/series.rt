@@ -1,0 +1,174 @@
+//! The report of a series. It prints what it is given, and does not look whether the terms are those of a series.
+
+ghost use Rattle.std.specs.Prelude.{◌≡◌, ◌++◌, ◌∷◌, IfOk, OnOk, codes, map, string_bytes};
+ghost use Rattle.std.specs.List.{flat_map};
+ghost use Rattle.tv_spec_text.specs.Lines.{line_text, spelled};
+ghost use Rattle.tv_spec_text.specs.Reports.{term_line, class_line, section_lines, series_text};
+ghost use Rattle.tv_text.specs.Sections.{kind_word, head_lines, title_line, heights_line, degree_line, upto_line, end_line};
+
+use crate::numbers::end_with_numbers;
+use std::alloc::{AllocError, Global};
+use std::marker::Model;
+
+/// Which series is printed.
+#[derive(Clone, Copy, Debug, PartialEq, Eq)]
+pub enum Kind {
+    Full,
+}
+
+impl Kind {
+    fn word(self) -> &'static str
+        ensures { result.now ≡ kind_word self }
+    {
+        match self {
+            Kind::Full => "full",
+        }
+    }
+}
+
+/// An exponent and its coefficient.
+#[derive(Clone, Copy, Debug)]
+pub struct Term {
+    pub exponent: i64,
+    pub coefficient: i128,
+}
+
+impl Model for Term {
+    ghost use Rattle.tv_spec_text.specs.Reports.{Term as SeenTerm};
+
+    ghost Value = { SeenTerm };
+
+    ghost view = { λ t. record { exponent = t.exponent; coefficient = t.coefficient } };
+
+    ghost inverse = { λ t. record { exponent = t.exponent; coefficient = t.coefficient } };
+}
+
+/// A class by its degree and its entries, and the terms of its series in the order in which they are printed.
+#[derive(Debug, Drop)]
+pub struct Section {
+    pub degree: i64,
+    pub entries: Vec<i64>,
+    pub terms: Vec<Term>,
+}
+
+impl Model for Section {
+    ghost use Rattle.tv_spec_text.specs.Reports.{Section as SeenSection};
+
+    ghost Value = { SeenSection };
+
+    ghost view = { λ s. record { degree = s.degree; entries = s.entries.items; terms = s.terms.items } };
+}
+
+/// The report of the series of the given kind: the heights, the degree and the exponent through which it goes, and
+/// the sections in their order.
+pub fn print_sections(
+    alloc: Global,
+    kind: Kind,
+    heights: &[i64],
+    degree: i64,
+    upto: i64,
+    sections: &[Section],
+) -> Result<Vec<u8>, AllocError>
+    ensures { IfOk result (λ v. v.items ≡ series_text (kind_word kind) heights.now degree upto sections.now) }
+{
+    let mut text = String::new(alloc);
+    put_head(&mut text, kind, heights, degree, upto)?;
+    put_sections(&mut text, sections)?;
+    put_end(&mut text)?;
+    Ok(text.into_bytes())
+}
+
+fn put_head(
+    text: &mut String,
+    kind: Kind,
+    heights: &[i64],
+    degree: i64,
+    upto: i64,
+) -> Result<(), AllocError>
+    ensures { OnOk result (string_bytes text.new ≡ string_bytes text.old ++ flat_map line_text (head_lines (kind_word kind) heights.now degree upto)) }
+{
+    put_title(text, kind)?;
+    put_heights(text, heights)?;
+    put_degree(text, degree)?;
+    put_upto(text, upto)
+}
+
+#[tactic(auto, unfolding(tv_spec_text::specs::Lines::line_text))]
+fn put_title(text: &mut String, kind: Kind) -> Result<(), AllocError>
+    ensures { OnOk result (string_bytes text.new ≡ string_bytes text.old ++ line_text (title_line (kind_word kind))) }
+{
+    let title = kind.word();
+    writeln!(text, "report series {title}")?;
+    Ok(())
+}
+
+fn put_heights(text: &mut String, heights: &[i64]) -> Result<(), AllocError>
+    ensures { OnOk result (string_bytes text.new ≡ string_bytes text.old ++ line_text (heights_line heights.now)) }
+{
+    write!(text, "heights")?;
+    end_with_numbers(text, heights)?;
+    Ok(())
+}
+
+#[tactic(auto, unfolding(tv_spec_text::specs::Lines::line_text))]
+fn put_degree(text: &mut String, degree: i64) -> Result<(), AllocError>
+    ensures { OnOk result (string_bytes text.new ≡ string_bytes text.old ++ line_text (degree_line degree)) }
+{
+    writeln!(text, "degree {degree}")
+}
+
+#[tactic(auto, unfolding(tv_spec_text::specs::Lines::line_text))]
+fn put_upto(text: &mut String, upto: i64) -> Result<(), AllocError>
+    ensures { OnOk result (string_bytes text.new ≡ string_bytes text.old ++ line_text (upto_line upto)) }
+{
+    writeln!(text, "upto {upto}")
+}
+
+#[tactic(auto, unfolding(tv_spec_text::specs::Lines::line_text))]
+fn put_end(text: &mut String) -> Result<(), AllocError>
+    ensures { OnOk result (string_bytes text.new ≡ string_bytes text.old ++ line_text end_line) }
+{
+    writeln!(text, "end")
+}
+
+fn put_sections(text: &mut String, sections: &[Section]) -> Result<(), AllocError>
+    ensures { OnOk result (string_bytes text.new ≡ string_bytes text.old ++ flat_map line_text (flat_map section_lines sections.now)) }
+{
+    for section in sections {
+        put_section(text, section)?;
+    }
+    Ok(())
+}
+
+fn put_section(text: &mut String, section: &Section) -> Result<(), AllocError>
+    ensures { OnOk result (string_bytes text.new ≡ string_bytes text.old ++ flat_map line_text (section_lines section.now)) }
+{
+    put_class(text, section.degree, &section.entries)?;
+    put_terms(text, &section.terms)
+}
+
+fn put_class(text: &mut String, degree: i64, entries: &[i64]) -> Result<(), AllocError>
+    ensures { OnOk result (string_bytes text.new ≡ string_bytes text.old ++ line_text (codes "class" ∷ spelled degree ∷ map spelled entries.now)) }
+{
+    write!(text, "class {degree}")?;
+    end_with_numbers(text, entries)?;
+    Ok(())
+}
+
+fn put_terms(text: &mut String, terms: &[Term]) -> Result<(), AllocError>
+    ensures { OnOk result (string_bytes text.new ≡ string_bytes text.old ++ flat_map line_text (map term_line terms.now)) }
+{
+    for term in terms {
+        put_term(text, term)?;
+    }
+    Ok(())
+}
+
+#[tactic(auto, unfolding(tv_spec_text::specs::Lines::line_text))]
+fn put_term(text: &mut String, term: &Term) -> Result<(), AllocError>
+    ensures { OnOk result (string_bytes text.new ≡ string_bytes text.old ++ line_text (term_line term.now)) }
+{
+    let exponent = term.exponent;
+    let coefficient = term.coefficient;
+    writeln!(text, "term {exponent} {coefficient}")
+}
