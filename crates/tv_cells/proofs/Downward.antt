@@ -126,10 +126,10 @@ stands_when legs cells c s =
     (and_from (nat_eq c.x 0 || in_union legs cells (cell (c.x - 1) c.y c.z)) _ s.along_x
     (and_from (nat_eq c.y 0 || in_union legs cells (cell c.x (c.y - 1) c.z)) _ s.along_y s.along_z))
 
-extras_stand : (legs : Legs) (cells : List Cell) (c : Cell) → is_extras legs cells ≡ true → list_any (same c) cells ≡ true → Stands legs cells c
+pub extras_stand : (legs : Legs) (cells : List Cell) (c : Cell) → is_extras legs cells ≡ true → list_any (same c) cells ≡ true → Stands legs cells c
 extras_stand legs cells c all m = stands_says legs cells c (member_passes (stands legs cells) c cells all m)
 
-union_closed : (legs : Legs) (cells : List Cell) → AreDiagrams legs → is_extras legs cells ≡ true → IsDownClosed (in_union legs cells)
+pub union_closed : (legs : Legs) (cells : List Cell) → AreDiagrams legs → is_extras legs cells ≡ true → IsDownClosed (in_union legs cells)
 union_closed legs cells d all = record { along_x = down_x; along_y = down_y; along_z = down_z }
   where
     down_x : (x y z : ℕ) → in_union legs cells (cell (suc x) y z) ≡ true → in_union legs cells (cell x y z) ≡ true

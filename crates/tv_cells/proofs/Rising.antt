@@ -62,6 +62,19 @@ pub before_front : (c : Cell) (front back : List Cell) → Before c (front ++ ba
 before_front c [] back b = b
 before_front c (d ∷ front) back b = before_front c front back b.1
 
+pub before_head : (c : Cell) (front back : List Cell) → Before c (front ++ back) → Before c front
+before_head c [] back b = tt
+before_head c (d ∷ front) back b = (b.0, before_head c front back b.1)
+
+-- a rising list rises without one of its cells
+pub rises-remove : (c : Cell) (front back : List Cell) → rises (front ++ c ∷ back) ≡ true → rises (front ++ back) ≡ true
+rises-remove c [] back r = rises-tail c back r
+rises-remove c (d ∷ front) back r =
+    let after = before_rising d (front ++ c ∷ back) r in
+    let later : Before d (c ∷ back) = before_front d front (c ∷ back) after in
+    rises-cons d (front ++ back) (before-append d front back (before_head d front (c ∷ back) after) later.1)
+    (rises-remove c front back (rises-tail d (front ++ c ∷ back) r))
+
 pub rises-append : (front back : List Cell) → rises front ≡ true → rises back ≡ true → AllBefore front back → rises (front ++ back) ≡ true
 rises-append [] back f b a = b
 rises-append (c ∷ front) back f b a =

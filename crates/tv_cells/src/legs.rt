@@ -1,8 +1,9 @@
 //! The three legs of a corner. The leg along z has the cells (x, y) of its diagram at every z, that along y the cells
 //! (x, z), and that along x the cells (y, z).
 
+ghost use Rattle.std.specs.Prelude.{◌≡◌, ◌≤◌};
 ghost use Rattle.tv_partition.specs.Rows.{IsSmall};
-ghost use Rattle.tv_cells.specs.Extras.{AreDiagrams};
+ghost use Rattle.tv_cells.specs.Extras.{AreDiagrams, extent};
 
 use tv_partition::diagram::Diagram;
 
@@ -14,6 +15,16 @@ pub struct Legs {
 }
 
 impl Legs {
+    /// The least number below which both entries of every cell of the three diagrams are.
+    pub fn extent(&self) -> u32
+        ensures value { result ≡ extent self.now }
+        ensures bound { result ≤ 24 }
+    {
+        self.along_x
+            .reach()
+            .max(self.along_y.reach().max(self.along_z.reach()))
+    }
+
     /// Tells that each leg is a diagram of at most 24 cells, and does nothing.
     pub fn known(&self)
         ensures diagrams { AreDiagrams self.now }

@@ -1,7 +1,7 @@
 //! A diagram of at most 24 cells, as the list of its rows. Row i is the number of cells whose first entry is i.
 
 ghost use Rattle.std.specs.Prelude.{◌≡◌, ℕ, ◌≤◌, ◌↔◌, List, [], IsSome, IfSome};
-ghost use Rattle.tv_partition.specs.Rows.{IsSmall, size, has};
+ghost use Rattle.tv_partition.specs.Rows.{IsSmall, size, has, reach};
 
 use crate::shape;
 use std::alloc::Global;
@@ -54,6 +54,14 @@ impl Diagram {
         ensures bound { result ≤ 24 }
     {
         shape::size(self.rows.as_slice())
+    }
+
+    /// The least number that no entry of a cell reaches.
+    pub fn reach(&self) -> u32
+        ensures value { result ≡ reach self.now }
+        ensures bound { result ≤ 24 }
+    {
+        shape::reach(self.rows.as_slice())
     }
 
     pub fn contains(&self, i: u32, j: u32) -> bool

@@ -2,7 +2,7 @@
 //! It keeps no rows of its own.
 
 ghost use Rattle.std.specs.Prelude.{◌≡◌, ◌≤◌, ◌↔◌, ◌<◌, ◌^◌, IsTrue};
-ghost use Rattle.tv_partition.specs.Rows.{FallsFrom, IsSmall, size, has};
+ghost use Rattle.tv_partition.specs.Rows.{FallsFrom, IsSmall, size, has, reach};
 
 pub fn is_small(rows: &[u32]) -> bool
     ensures { IsTrue result ↔ IsSmall rows.now }
@@ -31,6 +31,18 @@ pub fn size(rows: &[u32]) -> u32
         return 0;
     };
     *row + size(rest)
+}
+
+#[tactic(auto, using(crate::proofs::Bounds::bounds))]
+pub fn reach(rows: &[u32]) -> u32
+    requires { IsSmall rows.now }
+    ensures value { result ≡ reach rows.now }
+    ensures bound { result ≤ 24 }
+{
+    match rows.first() {
+        Some(longest) => (rows.len() as u32).max(*longest),
+        None => 0,
+    }
 }
 
 pub fn has(rows: &[u32], i: u32, j: u32) -> bool

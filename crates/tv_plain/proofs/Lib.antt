@@ -1,0 +1,5 @@
+pub mod Lists
+pub mod Remaining
+pub mod Cuts
+pub mod Writing
+pub mod Steps

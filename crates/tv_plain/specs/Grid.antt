@@ -1,0 +1,21 @@
+-- Parts of a cube, as they are written cell by cell.
+--
+-- heights x y k n       == the cells at (x, y) with z from k on, n of them
+-- columns x y h k n     == the columns of height h at (x + k, y + k) and the n - 1 places after it
+-- diagonals side k n    == the diagonals of the cube of that side from number k on, n of them, number 0 being that of the greatest x
+use Rattle.std.specs.Prelude.{ℕ, ◌+◌, ◌-◌, List, map}
+use Rattle.std.specs.List.{flat_map}
+use Rattle.tv_cells.specs.declared.cell.Cell.{Cell}
+use Rattle.tv_cells.specs.Cells.{cell, numbers_from}
+
+abbrev pub heights : ℕ → ℕ → ℕ → ℕ → List Cell
+heights x y k n = map (λ z. cell x y z) (numbers_from k n)
+
+abbrev pub columns : ℕ → ℕ → ℕ → ℕ → ℕ → List Cell
+columns x y h k n = flat_map (λ d. heights (d + x) (d + y) 0 h) (numbers_from k n)
+
+abbrev pub diagonal_of : ℕ → ℕ → List Cell
+diagonal_of side k = columns ((side - 1) - k) (k - (side - 1)) side 0 (side - (((side - 1) - k) + (k - (side - 1))))
+
+abbrev pub diagonals : ℕ → ℕ → ℕ → List Cell
+diagonals side k n = flat_map (diagonal_of side) (numbers_from k n)

@@ -1,0 +1,12 @@
+//! Why a count isn't given. It says nothing of where the count stood.
+
+use thiserror::Error;
+
+#[derive(Clone, Copy, Debug, PartialEq, Eq, Error)]
+pub enum CountFault {
+    /// The count is beyond 2^127 - 1.
+    #[error("the count is beyond 2^127 - 1")]
+    Wide,
+    #[error("out of memory")]
+    Memory,
+}

@@ -1,0 +1,60 @@
+//! Counts of extras beside no leg, one leg and three legs of one cell, as they are known from outside.
+
+use crate::listing::extras_count;
+use std::alloc::Global;
+use std::test::Fail;
+use tv_cells::legs::Legs;
+use tv_partition::diagram::Diagram;
+
+fn leg(alloc: Global, present: bool) -> Result<Diagram, Fail> {
+    if !present {
+        return Ok(Diagram::empty(alloc));
+    }
+    let mut rows = Vec::new(alloc);
+    rows.push(1)?;
+    Ok(Diagram::new(rows).ok_or("a diagram")?)
+}
+
+#[test]
+fn counts_plane_partitions(rt: HostRuntime) -> Result<(), Fail> {
+    let legs = Legs {
+        along_x: leg(rt.alloc(), false)?,
+        along_y: leg(rt.alloc(), false)?,
+        along_z: leg(rt.alloc(), false)?,
+    };
+    for (number, want) in [(0, 1), (1, 1), (2, 3), (3, 6), (4, 13), (5, 24), (6, 48)] {
+        assert_eq!(rt;
+            extras_count(rt.alloc(), &legs, number)?,
+            want,
+            "{number} extras"
+        );
+    }
+    Ok(())
+}
+
+#[test]
+fn counts_beside_legs(rt: HostRuntime) -> Result<(), Fail> {
+    let one = Legs {
+        along_x: leg(rt.alloc(), false)?,
+        along_y: leg(rt.alloc(), true)?,
+        along_z: leg(rt.alloc(), false)?,
+    };
+    let three = Legs {
+        along_x: leg(rt.alloc(), true)?,
+        along_y: leg(rt.alloc(), true)?,
+        along_z: leg(rt.alloc(), true)?,
+    };
+    for (number, beside_one, beside_three) in [(0, 1, 1), (1, 2, 3), (2, 5, 9), (3, 11, 22)] {
+        assert_eq!(rt;
+            extras_count(rt.alloc(), &one, number)?,
+            beside_one,
+            "{number} beside one leg"
+        );
+        assert_eq!(rt;
+            extras_count(rt.alloc(), &three, number)?,
+            beside_three,
+            "{number} beside three"
+        );
+    }
+    Ok(())
+}
