@@ -17,7 +17,7 @@ lowest_is : (w : Web) → IsBare w → (d : ℕ) → lowest w (no_legs w) d ≡ 
 unfolding lowest least overlap_cost overlaps cube
 lowest_is w h d = rw (only_assignment w h d, h.edges, h.legs) refl
 
-degree_zero : (hs : List ℤ) (n : ℕ) → degree_of hs (zeros n) ≡ pos 0
+pub degree_zero : (hs : List ℤ) (n : ℕ) → degree_of hs (zeros n) ≡ pos 0
 degree_zero [] n = refl
 degree_zero (h ∷ hs) zero = refl
 degree_zero (h ∷ hs) (suc n) = rw (degree_zero hs n) (omega (arith, ints))

@@ -1,4 +1,6 @@
 pub mod WordPlaces
 pub mod Orders
-pub mod Terms
+pub mod TermLists
+pub mod CornerTerms
+pub mod CornerReport
 pub mod Completeness

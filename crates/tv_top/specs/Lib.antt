@@ -3,6 +3,7 @@ pub mod Acceptance
 pub mod Rejections
 pub mod RejectionLines
 pub mod SeriesReport
+pub mod CornerTerms
 pub mod Status
 pub mod Answers
 pub mod Replies

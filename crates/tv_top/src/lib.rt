@@ -6,8 +6,10 @@ mod acceptance;
 mod command;
 mod corner;
 mod reply;
+mod report;
 mod status;
 mod telling;
+mod terms;
 
 pub use acceptance::{AcceptError, MAX_BYTES, Rejection, accept};
 pub use command::{Command, WordsError, parse_words};
