@@ -21,8 +21,8 @@ use Rattle.tv_outside.specs.Faults.{Rose}
 use Rattle.tv_top.specs.Commands.{IsOrder, IsSeries, IsCommand, series_words}
 use Rattle.tv_top.specs.Acceptance.{IsAccepted, IsText}
 use Rattle.tv_top.specs.Rejections.{IsRejected, FaultOf, IsNoCorner}
-use Rattle.tv_top.specs.Answers.{Inputs, Outputs, Gave, Deserves, DeservesDone, DeservesFile, DeservesWide, Told, Answers}
-use Rattle.tv_top.specs.Completeness.{NothingFails, IsWide, Completes}
+use Rattle.tv_top.specs.Answers.{Inputs, Outputs, Gave, Deserves, DeservesDone, DeservesFile, DeservesWide, Told, Answers, IsWide}
+use Rattle.tv_top.specs.Completeness.{NothingFails, Completes}
 use Rattle.tv_top.specs.declared.acceptance.Rejection.{Rejection}
 use Rattle.tv_top.specs.declared.acceptance.Rejection.TheVariants.{Fault, NotOneCorner}
 use Rattle.tv_top.specs.declared.status.Status.{Status}

@@ -11,7 +11,7 @@ use Rattle.tv_spec_boxes.proofs.OneCornerClass.{one_corner_classes}
 use Rattle.tv_spec_boxes.proofs.OneCornerCrowd.{one_corner_crowd, degree_zero}
 use Rattle.tv_top.specs.SeriesReport.{IsFullReport, full_coefficient}
 use Rattle.tv_top.specs.CornerTerms.{zero_section}
-use Rattle.tv_top.specs.Completeness.{IsWide}
+use Rattle.tv_top.specs.Answers.{IsWide}
 use Rattle.tv_top.proofs.TermLists.{terms-onto}
 
 pub corner_is_full : (w : Web) (upto : ℤ) (ts : List Term) (text : List ℕ) → IsOneCorner w → AreTerms corner_coefficient upto ts → text ≡ series_text (codes "full") w.heights (pos 0) upto (zero_section ts ∷ []) → IsFullReport w 0 upto text

@@ -3,4 +3,5 @@ pub mod Orders
 pub mod TermLists
 pub mod CornerTerms
 pub mod CornerReport
+pub mod RejectedReply
 pub mod Completeness

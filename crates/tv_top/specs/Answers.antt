@@ -2,15 +2,17 @@
 --
 -- Inputs, Outputs         == the bytes that a source, or a sink, tells before and after, and its counts of faults
 -- memory_text, read_text  == the texts of want of memory and of a failed read
+-- IsWide w upto           == the crowd of the zero class in the series through upto is beyond 2^127 - 1
+-- wide_crowd_line         == the line that names it
 -- Gave io bytes           == these bytes were taken from the source, and where it tells its bytes, none are left
 -- Deserves ws io status text == the status and its text are deserved by these words and this source
 -- Told old new text rose status result == a beginning of the text was appended to the sink: all of it, with the status, or
 --                             less, with WriteFault and a count of faults that rose
 -- Answers                 == some status and text are deserved, and were told
-use Rattle.std.specs.Prelude.{◌≡◌, ℕ, ◌+◌, ◌-◌, ◌^◌, ◌<◌, ◌≤◌, ◌⊎◌, ℤ, pos, List, [], ◌∷◌, length, take, Option, codes}
+use Rattle.std.specs.Prelude.{◌≡◌, ℕ, ◌+◌, ◌-◌, ◌^◌, ◌<◌, ◌≤◌, ◌⊎◌, ℤ, pos, List, [], ◌∷◌, length, take, map, Option, codes}
 use Rattle.std.specs.Io.KnownBytes.{Appends, Consumes, IsAtEnd}
 use Rattle.tv_spec_plane.specs.Web.{Web}
-use Rattle.tv_spec_text.specs.Lines.{Word, line_text, spelled}
+use Rattle.tv_spec_text.specs.Lines.{Word, Line, line_text, spelled}
 use Rattle.tv_spec_text.specs.Places.{IsPlace}
 use Rattle.tv_spec_boxes.specs.Assignments.{no_legs, zeros}
 use Rattle.tv_spec_boxes.specs.Numbers.{crowd}
@@ -67,6 +69,12 @@ pub record DeservesFile (ws : List Word) (io : Inputs) (text : List ℕ) : Type 
   pub rejected : IsRejected bytes rejection
   pub line : text ≡ line_text (rejection_line rejection)
 
+abbrev pub IsWide : Web → ℤ → Type 0
+IsWide w upto = 2 ^ 127 - 1 < crowd w (no_legs w) 0 upto (zeros 3)
+
+abbrev pub wide_crowd_line : Line
+wide_crowd_line = codes "refused" ∷ codes "wide" ∷ codes "crowd" ∷ codes "class" ∷ map spelled (zeros 3)
+
 -- the crowd of the zero class is beyond 2^127 - 1
 pub record DeservesWide (ws : List Word) (io : Inputs) (text : List ℕ) : Type 0 where
   pub upto : ℤ
@@ -75,8 +83,8 @@ pub record DeservesWide (ws : List Word) (io : Inputs) (text : List ℕ) : Type 
   pub asked : IsSeries ws upto
   pub read : Gave io bytes
   pub accepted : IsAccepted bytes web
-  pub wide : 2 ^ 127 - 1 < crowd web (no_legs web) 0 upto (zeros 3)
-  pub line : text ≡ line_text (codes "refused" ∷ codes "wide" ∷ codes "crowd" ∷ codes "class" ∷ codes "0" ∷ codes "0" ∷ codes "0" ∷ [])
+  pub wide : IsWide web upto
+  pub line : text ≡ line_text wide_crowd_line
 
 pub record DeservesRead (ws : List Word) (io : Inputs) (text : List ℕ) : Type 0 where
   pub asked : IsCommand ws

@@ -4,17 +4,15 @@
 --   accepted: a command and a file that is taken give Done, or Wide with its cause, or want of memory
 --   refused:  a command and a file that is refused give File, or want of memory
 --   words:    words that are no command give Words, or want of memory, whatever the source holds
-use Rattle.std.specs.Prelude.{◌≡◌, ◌⊎◌, ℕ, ◌-◌, ◌^◌, ◌<◌, ℤ, List, Some}
+use Rattle.std.specs.Prelude.{◌≡◌, ◌⊎◌, ℕ, ℤ, List, Some}
 use Rattle.tv_spec_plane.specs.Web.{Web}
 use Rattle.tv_spec_text.specs.Lines.{Word}
 use Rattle.tv_spec_text.specs.Places.{IsPlace}
-use Rattle.tv_spec_boxes.specs.Assignments.{no_legs, zeros}
-use Rattle.tv_spec_boxes.specs.Numbers.{crowd}
 use Rattle.tv_outside.specs.Faults.{Rose}
 use Rattle.tv_top.specs.Commands.{IsSeries, IsCommand}
 use Rattle.tv_top.specs.Acceptance.{IsAccepted}
 use Rattle.tv_top.specs.Rejections.{IsRejected}
-use Rattle.tv_top.specs.Answers.{Inputs, Outputs}
+use Rattle.tv_top.specs.Answers.{Inputs, Outputs, IsWide}
 use Rattle.tv_top.specs.declared.acceptance.Rejection.{Rejection}
 use Rattle.tv_top.specs.declared.status.Status.{Status}
 use Rattle.tv_top.specs.declared.status.Status.TheVariants.{Done, Words, File, Wide, Memory}
@@ -23,9 +21,6 @@ use Rattle.tv_top.specs.declared.status.Status.TheVariants.{Done, Words, File, W
 pub record NothingFails (io : Inputs) (out : Outputs) : Type 0 where
   pub reads : Rose io.faults_before io.faults_after → ⊥
   pub writes : Rose out.faults_before out.faults_after → ⊥
-
-abbrev pub IsWide : Web → ℤ → Type 0
-IsWide w upto = 2 ^ 127 - 1 < crowd w (no_legs w) 0 upto (zeros 3)
 
 pub record Completes (ws : List Word) (io : Inputs) (out : Outputs) (result : Status) : Type 0 where
   pub accepted : (upto : ℤ) (bytes : List ℕ) (w : Web) → IsSeries ws upto → io.before ≡ Some bytes → IsAccepted bytes w → NothingFails io out → (result ≡ Done) ⊎ (((result ≡ Wide) × IsWide w upto) ⊎ (result ≡ Memory))

@@ -7,10 +7,12 @@ mod command;
 mod corner;
 mod reply;
 mod report;
+mod running;
 mod status;
 mod telling;
 mod terms;
 
 pub use acceptance::{AcceptError, MAX_BYTES, Rejection, accept};
 pub use command::{Command, WordsError, parse_words};
+pub use running::run;
 pub use status::Status;

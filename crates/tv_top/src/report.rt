@@ -5,7 +5,7 @@ ghost use Rattle.tv_spec_text.specs.Reports.{series_text};
 ghost use Rattle.tv_spec_boxes.specs.OneCorner.{IsOneCorner};
 ghost use Rattle.tv_top.specs.SeriesReport.{IsFullReport};
 ghost use Rattle.tv_top.specs.CornerTerms.{zero_section};
-ghost use Rattle.tv_top.specs.Completeness.{IsWide};
+ghost use Rattle.tv_top.specs.Answers.{IsWide};
 
 use crate::terms::corner_terms;
 use std::alloc::{AllocError, Global};

@@ -1,0 +1,46 @@
+//! The top call: words and a source in, one text out to a sink, and a status.
+
+ghost use Rattle.std.specs.Prelude.{map, string_bytes};
+ghost use Rattle.tv_top.specs.Answers.{Answers};
+ghost use Rattle.tv_top.specs.Completeness.{Completes};
+
+use crate::reply::{Failure, reply};
+use crate::status::Status;
+use crate::telling::tell;
+use std::alloc::Global;
+use tv_outside::{Sink, Source};
+
+const MEMORY_TEXT: &[u8] = b"refused memory\n";
+const READ_TEXT: &[u8] = b"refused read\n";
+
+/// Carries out the command that the words give, over the source's bytes, and writes its report or one refusal.
+///
+/// The words are read first; then the source to its end; then the whole text is made; last it is written. Want of
+/// memory may come at any time before that.
+pub fn run<S: Source, K: Sink>(
+    alloc: Global,
+    words: &[String],
+    source: &mut S,
+    sink: &mut K,
+) -> Status
+    ensures answers { Answers (map string_bytes words.now) (record { before = S.left source.old; after = S.left source.new; faults_before = S.faults source.old; faults_after = S.faults source.new }) (record { before = K.taken sink.old; after = K.taken sink.new; faults_before = K.faults sink.old; faults_after = K.faults sink.new }) result }
+    ensures complete { Completes (map string_bytes words.now) (record { before = S.left source.old; after = S.left source.new; faults_before = S.faults source.old; faults_after = S.faults source.new }) (record { before = K.taken sink.old; after = K.taken sink.new; faults_before = K.faults sink.old; faults_after = K.faults sink.new }) result }
+{
+    carry_out(alloc, words, source, sink)
+}
+
+#[tactic(auto, unfolding(tv_spec_text::specs::Lines::line_text))]
+fn carry_out<S: Source, K: Sink>(
+    alloc: Global,
+    words: &[String],
+    source: &mut S,
+    sink: &mut K,
+) -> Status
+    ensures { Answers (map string_bytes words.now) (record { before = S.left source.old; after = S.left source.new; faults_before = S.faults source.old; faults_after = S.faults source.new }) (record { before = K.taken sink.old; after = K.taken sink.new; faults_before = K.faults sink.old; faults_after = K.faults sink.new }) result }
+{
+    match reply(alloc, words, source) {
+        Ok(answer) => tell(sink, &answer.text, answer.status),
+        Err(Failure::Memory) => tell(sink, MEMORY_TEXT, Status::Memory),
+        Err(Failure::Read) => tell(sink, READ_TEXT, Status::ReadFault),
+    }
+}
