@@ -1,10 +1,9 @@
 //! The program: the words of the command line, standard input and standard output, and the number of a status.
 #![tactic(auto)]
 
-use std::alloc::Global;
-use std::env;
-use std::io;
 use std::process::ExitCode;
+use std::rt::Env;
+use std::{env, io};
 use tv_outside::{StdSink, StdSource};
 use tv_top::{Status, run};
 
