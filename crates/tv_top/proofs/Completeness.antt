@@ -66,9 +66,9 @@ all_of_told None after told bytes e c n = cc
 all_of_told (Some xs) None told bytes e c n = absurd c
 all_of_told (Some xs) (Some ys) told bytes e c n = let same : xs ≡ told = cc in sym same ∙ (c ∙ (ap (λ zs. bytes ++ zs) n ∙ append_nil bytes))
   where
-  append_nil : (xs : List ℕ) → xs ++ [] ≡ xs
-  append_nil [] = refl
-  append_nil (x ∷ xs) = ap (λ ys. x ∷ ys) (append_nil xs)
+    append_nil : (xs : List ℕ) → xs ++ [] ≡ xs
+    append_nil [] = refl
+    append_nil (x ∷ xs) = ap (λ ys. x ∷ ys) (append_nil xs)
 
 told_bytes : (io : Inputs) (told bytes : List ℕ) → io.before ≡ Some told → Gave io bytes → told ≡ bytes
 told_bytes io told bytes e g = all_of_told io.before io.after told bytes e g.taken g.ended
@@ -76,8 +76,8 @@ told_bytes io told bytes e g = all_of_told io.before io.after told bytes e g.tak
 same_order : (ws : List Word) (y z : ℤ) → IsSeries ws y → IsSeries ws z → y ≡ z
 same_order ws y z p q = spelled_once y z (order_is_number y p.order) (order_is_number z q.order) (fourth (sym p.same ∙ q.same))
   where
-  fourth : {a b c d e f g h : Word} → a ∷ b ∷ c ∷ d ∷ [] ≡ e ∷ f ∷ g ∷ h ∷ [] → d ≡ h
-  fourth e = cc
+    fourth : {a b c d e f g h : Word} → a ∷ b ∷ c ∷ d ∷ [] ≡ e ∷ f ∷ g ∷ h ∷ [] → d ≡ h
+    fourth e = cc
 
 -- a rejected file's bytes, where the source tells its bytes: at most the first 65,537
 file_bytes : (before after : Option (List ℕ)) (told bytes : List ℕ) → before ≡ Some told → Consumes before after bytes → length bytes ≤ length told
@@ -88,27 +88,28 @@ file_bytes (Some xs) (Some ys) told bytes e c = let same : xs ≡ told = cc in l
 -- a file that was refused for some told bytes isn't a file that is taken
 refused_or_accepted : (ws : List Word) (io : Inputs) (text told : List ℕ) (w : Web) → io.before ≡ Some told → IsAccepted told w → DeservesFile ws io text → ⊥
 refused_or_accepted ws io text told w e a d = elim d.ended [
-  inl long ↦ let more = file_bytes io.before io.after told d.bytes e d.taken in let short = a.text.short in absurd (omega arith)
-  | inr whole ↦ accepted_or_rejected d.bytes w d.rejection (subst (λ bytes. IsAccepted bytes w) (all_of_told io.before io.after told d.bytes e d.taken whole.1) a) d.rejected ]
+  | inl long ↦ let more = file_bytes io.before io.after told d.bytes e d.taken in let short = a.text.short in absurd (omega arith)
+  | inr whole ↦ accepted_or_rejected d.bytes w d.rejection (subst (λ bytes. IsAccepted bytes w) (all_of_told io.before io.after told d.bytes e d.taken whole.1) a) d.rejected
+]
 
 -- what the deserved statuses are
 by_accepted : (ws : List Word) (io : Inputs) (upto : ℤ) (told : List ℕ) (w : Web) → IsSeries ws upto → io.before ≡ Some told → IsAccepted told w → (Rose io.faults_before io.faults_after → ⊥)
-  → (s : Status) (text : List ℕ) → Deserves ws io s text → (s ≡ Done) ⊎ (((s ≡ Wide) × IsWide w upto) ⊎ (s ≡ Memory))
+    → (s : Status) (text : List ℕ) → Deserves ws io s text → (s ≡ Done) ⊎ (((s ≡ Wide) × IsWide w upto) ⊎ (s ≡ Memory))
 by_accepted ws io upto told w q e a n Done text d = inl refl
 by_accepted ws io upto told w q e a n Words text d = absurd (place_excludes IsCommand ws d.place d.outside (upto, q))
 by_accepted ws io upto told w q e a n File text d = absurd (refused_or_accepted ws io text told w e a d)
 by_accepted ws io upto told w q e a n Wide text d =
-  let order : d.upto ≡ upto = same_order ws d.upto upto d.asked q in
-  let bytes : told ≡ d.bytes = told_bytes io told d.bytes e d.read in
-  let web : d.web ≡ w = one_reading (word_lines told) d.web w (let spelled = d.accepted.spelled in rw (← bytes) at spelled) a.spelled in
-  inr (inl (refl, subst (λ z. IsWide w z) order (subst (λ v. IsWide v d.upto) web d.wide)))
+    let order : d.upto ≡ upto = same_order ws d.upto upto d.asked q in
+    let bytes : told ≡ d.bytes = told_bytes io told d.bytes e d.read in
+    let web : d.web ≡ w = one_reading (word_lines told) d.web w (let spelled = d.accepted.spelled in rw (← bytes) at spelled) a.spelled in
+    inr (inl (refl, subst (λ z. IsWide w z) order (subst (λ v. IsWide v d.upto) web d.wide)))
 by_accepted ws io upto told w q e a n Differs text d = absurd d
 by_accepted ws io upto told w q e a n Memory text d = inr (inr refl)
 by_accepted ws io upto told w q e a n ReadFault text d = absurd (n d.rose)
 by_accepted ws io upto told w q e a n WriteFault text d = absurd d
 
 by_refused : (ws : List Word) (io : Inputs) (told : List ℕ) (r : Rejection) → IsCommand ws → io.before ≡ Some told → IsRejected told r → (Rose io.faults_before io.faults_after → ⊥)
-  → (s : Status) (text : List ℕ) → Deserves ws io s text → (s ≡ File) ⊎ (s ≡ Memory)
+    → (s : Status) (text : List ℕ) → Deserves ws io s text → (s ≡ File) ⊎ (s ≡ Memory)
 by_refused ws io told r q e x n Done text d = absurd (accepted_or_rejected told d.web r (let accepted = d.accepted in let bytes : told ≡ d.bytes = told_bytes io told d.bytes e d.read in rw (← bytes) at accepted) x)
 by_refused ws io told r q e x n Words text d = absurd (place_excludes IsCommand ws d.place d.outside q)
 by_refused ws io told r q e x n File text d = inl refl
@@ -136,4 +137,5 @@ pub completes : (ws : List Word) (io : Inputs) (out : Outputs) (r : Status) → 
 completes ws io out r a = record {
   accepted = λ upto told w q e acc n. let same = told_status out a.text a.status r a.told n.writes in rw same (by_accepted ws io upto told w q e acc n.reads a.status a.text a.deserved);
   refused = λ told x q e rej n. let same = told_status out a.text a.status r a.told n.writes in rw same (by_refused ws io told x q e rej n.reads a.status a.text a.deserved);
-  words = λ k p n. let same = told_status out a.text a.status r a.told n in rw same (by_words ws io k p a.status a.text a.deserved) }
+  words = λ k p n. let same = told_status out a.text a.status r a.told n in rw same (by_words ws io k p a.status a.text a.deserved);
+}

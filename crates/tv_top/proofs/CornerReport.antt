@@ -19,7 +19,8 @@ corner_is_full w upto ts text one h e = record {
   sections = zero_section ts ∷ [];
   classes = one_corner_classes w one 0;
   each = (record { degree = sym (degree_zero w.heights 3); terms = terms-onto corner_coefficient (full_coefficient w (zeros 3)) (one_corner_coefficient w one) upto ts h }, tt);
-  printed = e }
+  printed = e;
+}
 
 wide_at : (w : Web) (n i : ℕ) → IsOneCorner w → i ≤ n → 2 ^ 127 ≤ count empty_legs i → IsWide w (pos n)
 wide_at w n i one l h = let bound = one_corner_crowd w one n i l in omega arith

@@ -9,12 +9,12 @@ use Rattle.tv_top.specs.Commands.{IsOrder}
 pub order_is_number : (z : ℤ) → IsOrder z → IsNumber z
 order_is_number (pos n) h = let high = h.high in let small : n < 65 = omega (arith, ints) in below n small
   where
-  below : (n : ℕ) → n < 65 → n < 10 ^ 9
-  below n h = omega arith
+    below : (n : ℕ) → n < 65 → n < 10 ^ 9
+    below n h = omega arith
 order_is_number (negsuc n) h = let low = h.low in let small : n < 64 = omega (arith, ints) in below n small
   where
-  below : (n : ℕ) → n < 64 → suc n < 10 ^ 9
-  below n h = omega arith
+    below : (n : ℕ) → n < 64 → suc n < 10 ^ 9
+    below n h = omega arith
 
 small : (z : ℤ) → IsNumber z → mag z < 2 ^ 63
 small (pos n) h = omega arith

@@ -15,11 +15,11 @@ use Rattle.tv_top.specs.declared.reply.Failure.TheVariants.{Memory, Read}
 use Rattle.tv_top.specs.declared.status.Status.TheVariants.{File}
 
 rejected_reply : (ws : List Word) (io : Inputs) (rejection : Rejection) (r : Result Answer Failure) → Says r File (rejection_line rejection)
-  → ((text : List ℕ) → text ≡ line_text (rejection_line rejection) → DeservesFile ws io text) → Replies ws io r
+    → ((text : List ℕ) → text ≡ line_text (rejection_line rejection) → DeservesFile ws io text) → Replies ws io r
 rejected_reply ws io rejection (Ok a) h f = subst (λ s. Deserves ws io s a.text.items) (sym h.0) (f a.text.items h.1)
 rejected_reply ws io rejection (Err e) h f = subst (Fails ws io) (sym h) tt
 
 -- the refusal of an input of which 65,537 bytes were taken
 pub too_long_reply : (ws : List Word) (io : Inputs) (upto : ℤ) (bytes : List ℕ) (r : Result Answer Failure) → IsSeries ws upto → Consumes io.before io.after bytes → length bytes ≡ 65536 + 1
-  → Says r File (rejection_line (Fault TooLong)) → Replies ws io r
+    → Says r File (rejection_line (Fault TooLong)) → Replies ws io r
 too_long_reply ws io upto bytes r q taken long h = rejected_reply ws io (Fault TooLong) r h (λ text line. record { bytes = bytes; rejection = Fault TooLong; asked = (upto, q); taken = taken; ended = inl long; rejected = omega arith; line = line })

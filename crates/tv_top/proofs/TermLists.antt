@@ -37,21 +37,24 @@ pub one_more : (f : ℤ → ℤ) (u v : ℤ) (ts : List Term) (t : Term) → v �
 one_more f u v ts t e h at value ne = record {
   rises = Rises-push f u ts t h.rises h.each (omega (arith, ints));
   each = All-push (IsTerm f v) ts t (All-later f u v (omega (arith, ints)) ts h.each) (record { within = omega (arith, ints); value = value ∙ ap f (sym at); nonzero = ne });
-  whole = λ n p q. next_or n u v e p (λ same. Among-last n ts t (at ∙ sym same)) (λ before. Among-left n ts (t ∷ []) (h.whole n before q)) }
+  whole = λ n p q. next_or n u v e p (λ same. Among-last n ts t (at ∙ sym same)) (λ before. Among-left n ts (t ∷ []) (h.whole n before q));
+}
 
 pub none_more : (f : ℤ → ℤ) (u v : ℤ) (ts : List Term) → v ≡ u +ℤ pos 1 → AreTerms f u ts → f v ≡ pos 0 → AreTerms f v ts
 none_more f u v ts e h z = record {
   rises = h.rises;
   each = All-later f u v (omega (arith, ints)) ts h.each;
-  whole = λ n p q. next_or n u v e p (λ same. absurd (q (ap f same ∙ z))) (λ before. h.whole n before q) }
+  whole = λ n p q. next_or n u v e p (λ same. absurd (q (ap f same ∙ z))) (λ before. h.whole n before q);
+}
 
 -- the terms of a function are those of an equal one
 pub terms-onto : (f g : ℤ → ℤ) → ((n : ℤ) → g n ≡ f n) → (u : ℤ) (ts : List Term) → AreTerms f u ts → AreTerms g u ts
 terms-onto f g same u ts h = record {
   rises = h.rises;
   each = each_onto ts h.each;
-  whole = λ n p q. h.whole n p (λ z. q (same n ∙ z)) }
+  whole = λ n p q. h.whole n p (λ z. q (same n ∙ z));
+}
   where
-  each_onto : (ts : List Term) → AllByRecursion (IsTerm f u) ts → AllByRecursion (IsTerm g u) ts
-  each_onto [] h = tt
-  each_onto (t ∷ ts) h = (record { within = h.0.within; value = h.0.value ∙ sym (same t.exponent); nonzero = h.0.nonzero }, each_onto ts h.1)
+    each_onto : (ts : List Term) → AllByRecursion (IsTerm f u) ts → AllByRecursion (IsTerm g u) ts
+    each_onto [] h = tt
+    each_onto (t ∷ ts) h = (record { within = h.0.within; value = h.0.value ∙ sym (same t.exponent); nonzero = h.0.nonzero }, each_onto ts h.1)

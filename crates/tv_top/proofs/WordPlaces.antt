@@ -47,8 +47,8 @@ pub place_4 : (xs rest : List Word) (z : ℤ) → xs ≡ codes "series" ∷ code
 place_4 xs [] z e h ne = absurd (ne refl)
 place_4 xs (w ∷ ws) z e h ne = rw e (record { within = omega arith; before = ([], command z h); outside = λ p b. absurd (over w _ (tail (tail (tail (tail b.1.1.same))))); short = λ q c. absurd (over w _ (tail (tail (tail (tail c.1.same))))) })
   where
-  over : (w : Word) (ws : List Word) → w ∷ ws ≡ [] → ⊥
-  over w ws e = cc
+    over : (w : Word) (ws : List Word) → w ∷ ws ≡ [] → ⊥
+    over w ws e = cc
 
 pub words_of_series : (xs rest : List Word) (z : ℤ) → xs ≡ codes "series" ∷ codes "full" ∷ codes "0" ∷ spelled z ∷ rest → IsOrder z → rest ≡ [] → IsSeries xs z
 words_of_series xs rest z e h n = record { order = h; same = e ∙ ap (λ r. codes "series" ∷ codes "full" ∷ codes "0" ∷ spelled z ∷ r) n }

@@ -56,7 +56,8 @@ fn is_json(bytes: &[u8]) -> bool
 {
     match bytes.first() {
         Some(byte) => {
-            *byte == b'{' || (*byte == b' ' || (*byte == b'\t' || (*byte == b'\n' || *byte == b'\r')))
+            *byte == b'{'
+                || (*byte == b' ' || (*byte == b'\t' || (*byte == b'\n' || *byte == b'\r')))
         }
         None => false,
     }

@@ -50,7 +50,11 @@ fn after_word<'a>(words: &'a [String], text: &str) -> Option<&'a [String]>
     ensures { MatchOption result ((ws : List (List ℕ)) → map string_bytes words.now ≢ text.now ∷ ws) (λ rest. map string_bytes words.now ≡ text.now ∷ map string_bytes rest.now) }
 {
     let (word, rest) = words.split_first()?;
-    if is_word(word, text) { Some(rest) } else { None }
+    if is_word(word, text) {
+        Some(rest)
+    } else {
+        None
+    }
 }
 
 fn is_word(word: &String, text: &str) -> bool

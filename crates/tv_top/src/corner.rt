@@ -6,10 +6,10 @@ ghost use Rattle.tv_spec_plane.specs.Plane.{at, IsUnimodular};
 ghost use Rattle.tv_spec_plane.specs.Web.{has};
 ghost use Rattle.tv_spec_boxes.specs.OneCorner.{IsOneCorner, NamesAll};
 
+use tv_lattice::Triple;
 use tv_lattice::file::FileData;
 use tv_lattice::point::{self, Point};
 use tv_lattice::turn::turn;
-use tv_lattice::Triple;
 
 pub(crate) fn is_one_corner(file: &FileData) -> bool
     ensures { IsTrue result ↔ IsOneCorner file.now }

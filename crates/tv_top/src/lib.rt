@@ -11,6 +11,8 @@ mod running;
 mod status;
 mod telling;
 mod terms;
+#[cfg(test)]
+mod tests;
 
 pub use acceptance::{AcceptError, MAX_BYTES, Rejection, accept};
 pub use command::{Command, WordsError, parse_words};

@@ -14,7 +14,11 @@ use tv_plain::fault::CountFault;
 use tv_text::series::{Kind, Section, Term, print_sections};
 
 /// The text of the report through the exponent `upto`.
-pub(crate) fn corner_report(alloc: Global, file: &FileData, upto: i64) -> Result<Vec<u8>, CountFault>
+pub(crate) fn corner_report(
+    alloc: Global,
+    file: &FileData,
+    upto: i64,
+) -> Result<Vec<u8>, CountFault>
     requires corner { IsOneCorner file.now }
     requires order { upto ≤ℤ pos 64 }
     ensures report { IfOk result (λ text. IsFullReport file.now 0 upto text.items) }

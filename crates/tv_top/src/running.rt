@@ -11,6 +11,7 @@ use std::alloc::Global;
 use tv_outside::{Sink, Source};
 
 const MEMORY_TEXT: &[u8] = b"refused memory\n";
+
 const READ_TEXT: &[u8] = b"refused read\n";
 
 /// Carries out the command that the words give, over the source's bytes, and writes its report or one refusal.

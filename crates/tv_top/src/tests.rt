@@ -1,0 +1,86 @@
+//! Whole runs over memory: the report, refusals that read nothing, and faults of reads and writes in turn.
+
+ghost use Rattle.std.specs.Prelude.{◌≤◌};
+
+use crate::{Status, run};
+use std::alloc::Global;
+use std::test::Fail;
+use tv_outside::{MemSink, MemSource};
+
+const ONE_CORNER: &[u8] =
+    b"tv 1\npoint 0 0\npoint 1 0\npoint 0 1\ntriangle 0 1 2\nheights 0 0 0\nend\n";
+
+const REPORT: &[u8] =
+    b"report series full\nheights 0 0 0\ndegree 0\nupto 4\nclass 0 0 0 0\nterm 0 1\nterm 1 -1\nterm 2 3\nterm 3 -6\nterm 4 13\nend\n";
+
+fn words(alloc: Global, texts: &[&str]) -> Result<Vec<String>, Fail> {
+    let mut words = Vec::new(alloc);
+    for text in texts {
+        words.push(String::from_str(alloc, text)?)?;
+    }
+    Ok(words)
+}
+
+fn source(alloc: Global, fails: &[u64]) -> Result<MemSource, Fail> {
+    Ok(MemSource::new(ONE_CORNER.to_vec(alloc)?, 16, fails.to_vec(alloc)?))
+}
+
+fn sink(alloc: Global, piece: usize, fails: &[u64]) -> Result<MemSink, Fail>
+    requires { 1 ≤ piece }
+{
+    Ok(MemSink::new(alloc, 1_048_576, piece, fails.to_vec(alloc)?)?)
+}
+
+#[test]
+fn prints_one_corner(rt: HostRuntime) -> Result<(), Fail> {
+    let alloc = rt.alloc();
+    let words = words(alloc, &["series", "full", "0", "4"])?;
+    let mut from = source(alloc, &[])?;
+    let mut to = sink(alloc, 10, &[])?;
+    let status = run(alloc, &words, &mut from, &mut to);
+    assert!(rt; status == Status::Done);
+    assert_eq!(rt; status.code(), 0);
+    assert!(rt; to.bytes() == REPORT);
+    Ok(())
+}
+
+#[test]
+fn a_failed_read_is_told(rt: HostRuntime) -> Result<(), Fail> {
+    let alloc = rt.alloc();
+    let words = words(alloc, &["series", "full", "0", "4"])?;
+    let mut from = source(alloc, &[1])?;
+    let mut to = sink(alloc, 10, &[])?;
+    let status = run(alloc, &words, &mut from, &mut to);
+    assert!(rt; status == Status::ReadFault);
+    assert_eq!(rt; status.code(), 7);
+    assert!(rt; to.bytes() == b"refused read\n".as_slice());
+    Ok(())
+}
+
+#[test]
+fn a_failed_write_leaves_a_beginning(rt: HostRuntime) -> Result<(), Fail> {
+    let alloc = rt.alloc();
+    let words = words(alloc, &["series", "full", "0", "4"])?;
+    for k in 0..12usize {
+        let mut from = source(alloc, &[])?;
+        let mut to = sink(alloc, 10, &[k as u64])?;
+        let status = run(alloc, &words, &mut from, &mut to);
+        assert!(rt; status == Status::WriteFault, "write {k}");
+        assert!(rt; to.bytes().len() == 10 * k, "write {k}");
+        assert!(rt; REPORT.starts_with(to.bytes()), "write {k}");
+    }
+    Ok(())
+}
+
+#[test]
+fn refused_words_read_nothing(rt: HostRuntime) -> Result<(), Fail> {
+    let alloc = rt.alloc();
+    let words = words(alloc, &["series", "full", "1", "4"])?;
+    let mut from = source(alloc, &[0])?;
+    let mut to = sink(alloc, 10, &[])?;
+    let status = run(alloc, &words, &mut from, &mut to);
+    assert!(rt; status == Status::Words);
+    assert!(rt; to.bytes() == b"refused words 2\n".as_slice());
+    assert_eq!(rt; from.faults(), 0);
+    Ok(())
+}
