@@ -1,5 +1,6 @@
 mod BadLines
 mod Decimals
+mod Exact
 mod Parts
 mod Printing
 mod Reading
