@@ -1,5 +1,5 @@
 -- A file passes at most one limit first, and none where it is within the limits.
-use Rattle.std.proofs.Common.{◌≡◌, ℕ, ◌<◌, ◌≤◌, pos, length, sym, ◌∙◌, ap, arith}
+use Rattle.std.proofs.Common.{◌≡◌, pos, sym, ◌∙◌, ap, arith}
 use Rattle.tv_spec_plane.specs.Web.{Web}
 use Rattle.tv_lattice.specs.declared.fault.Excess.{Excess}
 use Rattle.tv_lattice.specs.declared.fault.Excess.TheVariants.{Points, Triangles, Coordinate, Height}

@@ -1,12 +1,12 @@
 -- Lines spell at most one web.
-use Rattle.std.proofs.Common.{◌≡◌, ℕ, ℤ, pos, negsuc, suc, ◌+◌, ◌<◌, ◌≤◌, ◌^◌, List, [], ◌∷◌, ◌++◌, length, map, drop, get_or, refl, sym, ◌∙◌, ap, arith, lit<}
+use Rattle.std.proofs.Common.{◌≡◌, ℕ, ℤ, pos, negsuc, ◌<◌, ◌^◌, List, [], ◌∷◌, ◌++◌, length, map, drop, get_or, refl, sym, ◌∙◌, ap, arith, lit<}
 use Rattle.std.specs.List.{AllByRecursion}
 use Rattle.std.proofs.lemmas.Fmt.{signed_decimal_injective}
 use Rattle.tv_spec_plane.specs.declared.records.RawPoint.{RawPoint}
 use Rattle.tv_spec_plane.specs.declared.records.Triple.{Triple}
 use Rattle.tv_spec_plane.specs.Web.{Web}
 use Rattle.tv_spec_text.specs.Lines.{Line, spelled, IsNumber, IsCount}
-use Rattle.tv_spec_text.specs.Files.{first_line, point_line, triangle_line, heights_line, end_line, file_lines, PointFits, TriangleFits, Fits, Spells}
+use Rattle.tv_spec_text.specs.Files.{point_line, triangle_line, heights_line, end_line, PointFits, TriangleFits, Spells}
 use lib.Signed.{mag}
 
 small : (z : ℤ) → IsNumber z → mag z < 2 ^ 63
