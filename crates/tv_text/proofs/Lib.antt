@@ -1,7 +1,7 @@
 mod BadLines
-mod Decimals
-mod Exact
+pub mod Decimals
+pub mod Exact
 mod Parts
-mod Printing
+pub mod Printing
 mod Reading
-mod Spellings
+pub mod Spellings
