@@ -1,5 +1,6 @@
 -- Which limit a file passes first.
 --
+-- HasCounts w  == at most 64 points and 128 triangles
 -- IsExcess w e == e is the first limit that w passes, in the order points, triangles, coordinates, heights; of a
 --                 coordinate or a height the least number of a point or a height over it
 -- IsFirstHeight hs k == k is the least number of a height over its limit

@@ -1,5 +1,5 @@
 -- Which words are the decimal text of a number of at most nine digits.
-use Rattle.std.proofs.Common.{◌≡◌, ◌≢◌, ℕ, ℤ, pos, negsuc, suc, zero, ◌+◌, ◌*◌, ◌^◌, ◌<◌, ◌≤◌, List, [], ◌∷◌, length, take, drop, get_or, refl, sym, ◌∙◌, ap, subst, arith, lit<, lit≤, rules, length-take}
+use Rattle.std.proofs.Common.{◌≡◌, ◌≢◌, ℕ, ℤ, pos, negsuc, suc, zero, ◌^◌, ◌<◌, ◌≤◌, List, ◌∷◌, length, take, drop, get_or, sym, ◌∙◌, ap, subst, arith, lit<, length-take}
 use Rattle.std.specs.Prelude.{Option, Some, None, MatchOption}
 use Rattle.std.specs.Str.Parse.{AllDigits, digits_value}
 use Rattle.std.specs.Fmt.{decimal, signed_decimal}

@@ -1,6 +1,7 @@
 mod BadLines
-mod Decimals
+pub mod Decimals
+pub mod Exact
 mod Parts
-mod Printing
+pub mod Printing
 mod Reading
-mod Spellings
+pub mod Spellings

@@ -5,3 +5,4 @@ pub mod Faults
 pub mod Printed
 pub mod Refusals
 pub mod Sections
+pub mod Laws

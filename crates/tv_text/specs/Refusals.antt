@@ -5,7 +5,7 @@
 -- crowd_line v    == the line of a class with too many configurations
 -- wide_line w     == the line of a number that would be too wide
 -- refusal_line r  == the line of a refusal
-use Rattle.std.specs.Prelude.{ℕ, ℤ, pos, List, [], ◌∷◌, map, codes}
+use Rattle.std.specs.Prelude.{ℤ, pos, List, [], ◌∷◌, map, codes}
 use Rattle.tv_lattice.specs.declared.fault.Excess.{Excess}
 use Rattle.tv_lattice.specs.declared.fault.Excess.TheVariants.{Points, Triangles, Coordinate, Height}
 use Rattle.tv_lattice.specs.declared.fault.FileFault.{FileFault}

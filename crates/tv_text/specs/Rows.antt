@@ -7,7 +7,7 @@ use Rattle.std.specs.Prelude.{◌≡◌, ◌≢◌, ℕ, ℤ, List, map}
 use Rattle.std.specs.List.{AllByRecursion}
 use Rattle.tv_spec_plane.specs.declared.records.RawPoint.{RawPoint}
 use Rattle.tv_spec_plane.specs.declared.records.Triple.{Triple}
-use Rattle.tv_spec_text.specs.Lines.{Word, Line, IsNumber}
+use Rattle.tv_spec_text.specs.Lines.{Line, IsNumber}
 use Rattle.tv_spec_text.specs.Files.{first_line, point_line, triangle_line, heights_line, end_line, PointFits, TriangleFits}
 use Rattle.tv_text.specs.declared.row.Row.{Row}
 use Rattle.tv_text.specs.declared.row.Row.TheVariants.{First, Point, Triangle, Heights, End}

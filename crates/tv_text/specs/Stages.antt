@@ -2,6 +2,8 @@
 --
 -- stage_after s r  == the stage after row r, where it may follow at stage s
 -- web_with w r     == the web with the row's point, triangle or heights
+-- RestPoints ls, RestTriangles ls, RestHeights ls == the lines ls end a file and begin with any point, any triangle or
+--                     the heights
 -- Rest s ls        == the lines ls end a file of which the lines before were read up to stage s
 -- Seen s w ls      == the lines ls, read up to stage s, say w
 -- IsAt s w ls      == the same, with all numbers spelled, and what follows them in a file is a rest

@@ -1,10 +1,9 @@
 //! A file as text. How numbers and words are spelled is the concern of the modules below.
 
 ghost use Rattle.std.specs.Prelude.{◌≡◌, ◌≤◌, ◌<◌, suc, length, map, MatchResult};
-ghost use Rattle.tv_lattice.specs.Limits.{IsWithinLimits};
-ghost use Rattle.tv_spec_text.specs.Lines.{words, word_lines};
+ghost use Rattle.tv_spec_text.specs.Lines.{words};
 ghost use Rattle.tv_spec_text.specs.Files.{Spells};
-ghost use Rattle.tv_text.specs.Faults.{IsTextFault, IsLineFault};
+ghost use Rattle.tv_text.specs.Faults.{IsText, IsTextFault, IsLineFault};
 ghost use Rattle.tv_text.specs.Rows.{texts};
 
 use crate::draft::Draft;
@@ -18,7 +17,7 @@ use tv_lattice::file::{FileData, RawFile};
 /// else at the first line with which no file goes on (after the last line, where they end too early), else by the
 /// first limit that the file passes.
 pub fn read_file(alloc: Global, bytes: &[u8]) -> Result<FileData, InputError>
-    ensures { MatchResult result (λ w. (length bytes.now ≤ 65536) × Spells (word_lines bytes.now) w × IsWithinLimits w) (IsTextFault bytes.now) }
+    ensures { MatchResult result (IsText bytes.now) (IsTextFault bytes.now) }
 {
     if bytes.len() > 65536 {
         return Err(InputError::Fault(FileFault::TooLong));
@@ -50,4 +49,117 @@ fn bad_line(place: usize) -> InputError
     ensures { result ≡ InputError.Fault (FileFault.Line (suc place)) }
 {
     InputError::Fault(FileFault::Line(place as u32 + 1))
+}
+
+#[cfg(test)]
+mod tests {
+    use super::*;
+    use std::test::Fail;
+    use tv_lattice::fault::Excess;
+
+    const CONIFOLD: &str =
+        "tv 1\npoint 0 0\npoint 1 0\npoint 1 1\npoint 0 1\ntriangle 0 1 2\ntriangle 0 2 3\nheights 0 1 0 0\nend\n";
+
+    const WITH_RETURNS: &str =
+        "tv 1\r\npoint 0 0\r\npoint 1 0\r\npoint 1 1\r\npoint 0 1\r\ntriangle 0 1 2\r\ntriangle 0 2 3\r\nheights 0 1 0 0\r\nend\r\n";
+
+    const WITHOUT_LAST_FEED: &str =
+        "tv 1\npoint 0 0\npoint 1 0\npoint 1 1\npoint 0 1\ntriangle 0 1 2\ntriangle 0 2 3\nheights 0 1 0 0\nend";
+
+    fn fault(alloc: Global, bytes: &[u8]) -> Result<Option<FileFault>, Fail> {
+        match read_file(alloc, bytes) {
+            Ok(_) => Ok(None),
+            Err(InputError::Fault(fault)) => Ok(Some(fault)),
+            Err(InputError::Memory) => Err(InputError::Memory)?,
+        }
+    }
+
+    #[test]
+    fn reads_the_conifold(rt: HostRuntime) -> Result<(), Fail> {
+        for text in [CONIFOLD, WITH_RETURNS, WITHOUT_LAST_FEED] {
+            let file = read_file(rt.alloc(), text.as_bytes())?;
+            assert_eq!(rt; file.points.len(), 4);
+            assert_eq!(rt; file.points[2].x(), 1);
+            assert_eq!(rt; file.points[2].y(), 1);
+            assert_eq!(rt; file.points[3].x(), 0);
+            assert_eq!(rt; file.triangles.len(), 2);
+            assert_eq!(rt; file.triangles[1].c, 3);
+            assert_eq!(rt; file.heights.as_slice(), [0, 1, 0, 0].as_slice());
+        }
+        Ok(())
+    }
+
+    #[test]
+    fn names_the_line(rt: HostRuntime) -> Result<(), Fail> {
+        let table = [
+            ("", 1),
+            ("tv 2\nheights\nend\n", 1),
+            ("tv 1\npoint  0 0\nheights\nend\n", 2),
+            ("tv 1\npoint 0 0 \nheights\nend\n", 2),
+            ("tv 1\npoint\t0 0\nheights\nend\n", 2),
+            ("tv 1\npoint 0 -0\nheights\nend\n", 2),
+            ("tv 1\npoint 0 +1\nheights\nend\n", 2),
+            ("tv 1\npoint 0 01\nheights\nend\n", 2),
+            ("tv 1\npoint 0 1234567890\nheights\nend\n", 2),
+            ("tv 1\npoint 0 0\ntriangle 0 0 -1\nheights\nend\n", 3),
+            ("tv 1\ntriangle 0 0 0\npoint 0 0\nheights\nend\n", 3),
+            ("tv 1\nheights 0\r0\nend\n", 2),
+            ("tv 1\nheights 0\n", 3),
+            ("tv 1\nheights 0\nend\r", 3),
+            ("tv 1\nheights 0\nend\n\n", 4),
+        ];
+        for (text, line) in table {
+            assert_eq!(rt;
+                fault(rt.alloc(), text.as_bytes())?,
+                Some(FileFault::Line(line)),
+                "at {text:?}"
+            );
+        }
+        Ok(())
+    }
+
+    #[test]
+    fn names_a_byte_past_ascii(rt: HostRuntime) -> Result<(), Fail> {
+        let mut bytes = Vec::from_slice(rt.alloc(), b"tv 1\npoint 0 0\npoint 0 ".as_slice())?;
+        bytes.push(200)?;
+        bytes.extend_from_slice(b"\nheights\nend\n".as_slice())?;
+        assert_eq!(rt; fault(rt.alloc(), &bytes)?, Some(FileFault::Line(3)));
+        Ok(())
+    }
+
+    #[test]
+    fn names_the_limit(rt: HostRuntime) -> Result<(), Fail> {
+        let far = "tv 1\npoint 100 -100\npoint 0 0\npoint 0 101\nheights 1000001\nend\n";
+        assert_eq!(rt;
+            fault(rt.alloc(), far.as_bytes())?,
+            Some(FileFault::TooMany(Excess::Coordinate(2)))
+        );
+        let high = "tv 1\nheights 1000000 -1000001\nend\n";
+        assert_eq!(rt;
+            fault(rt.alloc(), high.as_bytes())?,
+            Some(FileFault::TooMany(Excess::Height(1)))
+        );
+        let mut text = String::from_str(rt.alloc(), "tv 1\n")?;
+        for _ in 0..65 {
+            text.push_str("point 0 0\n")?;
+        }
+        text.push_str("heights\nend\n")?;
+        assert_eq!(rt;
+            fault(rt.alloc(), text.as_bytes())?,
+            Some(FileFault::TooMany(Excess::Points(65)))
+        );
+        Ok(())
+    }
+
+    #[test]
+    fn counts_the_bytes(rt: HostRuntime) -> Result<(), Fail> {
+        let mut bytes = Vec::new(rt.alloc());
+        for _ in 0..65536 {
+            bytes.push(b' ')?;
+        }
+        assert_eq!(rt; fault(rt.alloc(), &bytes)?, Some(FileFault::Line(1)));
+        bytes.push(b' ')?;
+        assert_eq!(rt; fault(rt.alloc(), &bytes)?, Some(FileFault::TooLong));
+        Ok(())
+    }
 }

@@ -4,6 +4,7 @@
 
 mod draft;
 pub mod file;
+pub mod laws;
 mod lines;
 pub mod number;
 mod numbers;

@@ -63,3 +63,17 @@ fn digits(word: &[u8]) -> Option<u32>
     }
     Some(value)
 }
+
+#[cfg(test)]
+mod tests {
+    use super::*;
+
+    #[test]
+    fn reads_numbers(rt: HostRuntime) {
+        assert_eq!(rt; number(b"-999999999".as_slice()), Some(-999999999));
+        assert_eq!(rt; number(b"0".as_slice()), Some(0));
+        assert_eq!(rt; number(b"-".as_slice()), None);
+        assert_eq!(rt; count(b"999999999".as_slice()), Some(999999999));
+        assert_eq!(rt; count(b"-1".as_slice()), None);
+    }
+}

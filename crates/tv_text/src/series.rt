@@ -172,3 +172,38 @@ fn put_term(text: &mut String, term: &Term) -> Result<(), AllocError>
     let coefficient = term.coefficient;
     writeln!(text, "term {exponent} {coefficient}")
 }
+
+#[cfg(test)]
+mod tests {
+    use super::*;
+    use std::test::Fail;
+
+    #[test]
+    fn prints_one_corner(rt: HostRuntime) -> Result<(), Fail> {
+        let mut terms = Vec::new(rt.alloc());
+        for (exponent, coefficient) in [(0, 1), (1, -1), (2, 3), (3, -6), (4, 13)] {
+            terms.push(Term {
+                exponent,
+                coefficient,
+            })?;
+        }
+        let entries = Vec::from_slice(rt.alloc(), [0, 0, 0].as_slice())?;
+        let sections = [Section {
+            degree: 0,
+            entries,
+            terms,
+        }];
+        let report = print_sections(
+            rt.alloc(),
+            Kind::Full,
+            [0, 0, 0].as_slice(),
+            0,
+            4,
+            sections.as_slice(),
+        )?;
+        let text =
+            "report series full\nheights 0 0 0\ndegree 0\nupto 4\nclass 0 0 0 0\nterm 0 1\nterm 1 -1\nterm 2 3\nterm 3 -6\nterm 4 13\nend\n";
+        assert_eq!(rt; report.as_slice(), text.as_bytes());
+        Ok(())
+    }
+}

@@ -1,4 +1,4 @@
-use Rattle.std.proofs.Common.{◌∙◌, map, ap}
+use Rattle.std.proofs.Common.{◌∙◌, ap}
 use Rattle.tv_text.specs.Rows.{texts}
 use Rattle.tv_text.proofs.BadLines.{lines-count}
 use Rattle.tv_text.proofs.file.read_file.Goals as goal

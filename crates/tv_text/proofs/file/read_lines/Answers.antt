@@ -1,9 +1,7 @@
-use Rattle.std.proofs.Common.{◌≡◌, ◌≢◌, ◌++◌, ◌∷◌, [], ◌+◌, ◌<◌, ◌∙◌, List, map, take, ap, subst, sym, refl, length, arith, ℕ, suc}
+use Rattle.std.proofs.Common.{◌≡◌, ◌≢◌, ◌++◌, ◌∷◌, [], ◌+◌, ◌<◌, ◌∙◌, map, take, ap, subst, sym, refl, length, arith, suc}
 use Rattle.std.proofs.lemmas.List.{take_all}
-use Rattle.tv_spec_text.specs.Lines.{words, Line}
-use Rattle.tv_spec_text.specs.Places.{IsPlace}
-use Rattle.tv_spec_text.specs.Files.{IsFile}
-use Rattle.tv_text.specs.Drafts.{web_of, Refuses, Reads}
+use Rattle.tv_spec_text.specs.Lines.{words}
+use Rattle.tv_text.specs.Drafts.{web_of}
 use Rattle.tv_text.specs.Faults.{IsLineFault}
 use Rattle.tv_text.specs.Rows.{texts}
 use Rattle.tv_text.specs.Stages.{IsAt}

@@ -1,5 +1,4 @@
 use Rattle.std.proofs.Common.{arith, refl}
-use Rattle.std.proofs.lemmas.Grind.{common_steps}
 use Rattle.tv_text.proofs.Decimals.{decimal-some, decimal-length, decimal-first, count_answer}
 use Rattle.tv_text.proofs.number.count.Goals as goal
 

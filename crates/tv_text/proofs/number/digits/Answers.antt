@@ -1,8 +1,5 @@
-use Rattle.std.proofs.Common.{rules, arith, get_or, ◌<◌, ◌≤◌, ◌∙◌, ◌+◌, ◌≡◌, ℕ, Bool, true, false, ◌*◌, ◌^◌}
-use Rattle.std.specs.Str.Parse.{digits_value}
-use Rattle.std.specs.Char.{digit_value}
+use Rattle.std.proofs.Common.{arith, get_or, ◌<◌, ◌^◌}
 use Rattle.std.specs.Int.{IsInRange}
-use Rattle.std.proofs.Common.{take}
 use Rattle.std.proofs.lemmas.Str.Parse.{digit_at, digit_from_value}
 use Rattle.std.proofs.lemmas.Str.{digit_value_digit}
 use Rattle.std.proofs.lemmas.Int.Digits.{digits_value_more, digits_more}

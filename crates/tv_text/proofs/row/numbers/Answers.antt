@@ -1,4 +1,4 @@
-use Rattle.std.proofs.Common.{◌≡◌, ◌++◌, ◌∷◌, [], ◌∙◌, ℤ, List, map, take, ap, subst, sym, ◌+◌, refl}
+use Rattle.std.proofs.Common.{◌≡◌, ◌++◌, ◌∷◌, [], ◌∙◌, ℤ, List, map, take, ap, subst, sym, ◌+◌}
 use Rattle.std.specs.List.{AllByRecursion}
 use Rattle.tv_text.proofs.Spellings.{no_spelling, spelled_more, same_number}
 use Rattle.tv_text.specs.Rows.{texts}
