@@ -1,9 +1,10 @@
 //! A diagram of at most 24 cells, as the list of its rows. Row i is the number of cells whose first entry is i.
 
-ghost use Rattle.std.specs.Prelude.{◌≡◌, ℕ, ◌≤◌, ◌↔◌, List, [], IsSome, IfSome};
+ghost use Rattle.std.specs.Prelude.{◌≡◌, ℕ, ◌≤◌, ◌↔◌, List, [], slice_index, IsSome, IfSome, IfOk};
 ghost use Rattle.tv_partition.specs.Rows.{IsSmall, size, has, reach};
 
 use crate::shape;
+use std::alloc::AllocError;
 use std::alloc::Global;
 use std::marker::Model;
 
@@ -54,6 +55,24 @@ impl Diagram {
         ensures bound { result ≤ 24 }
     {
         shape::size(self.rows.as_slice())
+    }
+
+    /// The number of cells with first entry i.
+    #[tactic(auto, using(crate::proofs::Bounds::bounds))]
+    pub fn row(&self, i: u32) -> u32
+        ensures value { result ≡ slice_index self.now i }
+        ensures bound { result ≤ 24 }
+    {
+        shape::row(self.rows.as_slice(), i)
+    }
+
+    /// The diagram with the two entries of each cell exchanged.
+    pub fn flip(&self) -> Result<Diagram, AllocError>
+        ensures exchanged { IfOk result (λ d. (i j : ℕ) → has d j i ≡ has self.now i j) }
+        ensures size { IfOk result (λ d. size d ≡ size self.now) }
+    {
+        let rows = shape::flipped(*self.rows.allocator(), self.rows.as_slice())?;
+        Ok(Diagram { rows })
     }
 
     /// The least number that no entry of a cell reaches.
