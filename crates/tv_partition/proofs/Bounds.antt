@@ -3,7 +3,7 @@ use Rattle.std.proofs.Common.{ℕ, zero, suc, ◌≤◌, List, [], ◌∷◌, le
 use Rattle.std.specs.Prelude.{slice_index}
 use Rattle.tv_partition.specs.Rows.{FallsFrom, IsDiagram, IsSmall, size}
 
-falling_rows : (top : ℕ) (rows : List ℕ) → FallsFrom top rows → length rows ≤ size rows
+pub falling_rows : (top : ℕ) (rows : List ℕ) → FallsFrom top rows → length rows ≤ size rows
 falling_rows top [] f = omega arith
 falling_rows top (row ∷ rows) f = let rest = falling_rows row rows f.2 in omega (arith, f.0)
 

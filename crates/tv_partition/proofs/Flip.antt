@@ -47,7 +47,7 @@ ones-count row j (suc n) l =
     elim (cases_lt j row) [
       | inl below ↦ let one = longer-one j row below in omega arith
       | inr above ↦ let none = longer-none j row above in omega arith
-      ]
+    ]
 
 columns-split : (row : ℕ) (rows : List ℕ) (j n : ℕ) → size (columns (row ∷ rows) j n) ≡ ones row j n + size (columns rows j n)
 unfolding ones
@@ -88,22 +88,22 @@ column_past rows k (suc n) (suc j) l = column_past rows (suc k) n j (omega arith
 counts : (top : ℕ) (rows : List ℕ) (i j : ℕ) → FallsFrom top rows → nat_lt i (column rows j) ≡ nat_lt j (slice_index rows i)
 counts top [] i j f = grind (arith, nat_tests)
 counts top (row ∷ rows) zero j f = elim (cases_lt j row) [
-    | inl below ↦ let one = longer-one j row below in grind (arith, nat_tests)
-    | inr above ↦ let none = longer-none j row above in let rest = column-none row rows j f.2 above in grind (arith, nat_tests)
-    ]
+  | inl below ↦ let one = longer-one j row below in grind (arith, nat_tests)
+  | inr above ↦ let none = longer-none j row above in let rest = column-none row rows j f.2 above in grind (arith, nat_tests)
+]
 counts top (row ∷ rows) (suc i) j f = elim (cases_lt j row) [
-    | inl below ↦ let one = longer-one j row below in let rest = counts row rows i j f.2 in let step = one_more i (column rows j) in ap (λ n. nat_lt (suc i) (n + column rows j)) one ∙ (step ∙ rest)
-    | inr above ↦ let none = longer-none j row above in let rest = column-none row rows j f.2 above in let short = falls-row row rows f.2 i in grind (arith, nat_tests)
-    ]
+  | inl below ↦ let one = longer-one j row below in let rest = counts row rows i j f.2 in let step = one_more i (column rows j) in ap (λ n. nat_lt (suc i) (n + column rows j)) one ∙ (step ∙ rest)
+  | inr above ↦ let none = longer-none j row above in let rest = column-none row rows j f.2 above in let short = falls-row row rows f.2 i in grind (arith, nat_tests)
+]
   where
     one_more : (i n : ℕ) → nat_lt (suc i) (1 + n) ≡ nat_lt i n
     one_more i n = grind (arith, nat_tests)
 
 pub flipped-has : (rows : List ℕ) → IsDiagram rows → (i j : ℕ) → has (flipped rows) j i ≡ has rows i j
 flipped-has rows d i j = elim (cases_lt j (slice_index rows 0)) [
-    | inl below ↦ ap (nat_lt i) (column_at rows 0 (slice_index rows 0) j below ∙ ap (column rows) (omega arith)) ∙ counts (slice_index rows 0) rows i j (diagram-falls rows d)
-    | inr above ↦ let none = column_past rows 0 (slice_index rows 0) j above in let short = falls-row (slice_index rows 0) rows (diagram-falls rows d) i in grind (arith, nat_tests)
-    ]
+  | inl below ↦ ap (nat_lt i) (column_at rows 0 (slice_index rows 0) j below ∙ ap (column rows) (omega arith)) ∙ counts (slice_index rows 0) rows i j (diagram-falls rows d)
+  | inr above ↦ let none = column_past rows 0 (slice_index rows 0) j above in let short = falls-row (slice_index rows 0) rows (diagram-falls rows d) i in grind (arith, nat_tests)
+]
 
 -- one column more is written
 pub flip-next : (rows now before whole : List ℕ) (j n : ℕ) → j < n → now ≡ before ++ column rows j ∷ [] → before ++ columns rows j (n - j) ≡ whole → now ++ columns rows (j + 1) (n - (j + 1)) ≡ whole
@@ -111,7 +111,7 @@ flip-next rows now before whole j n l push e =
     let more : n - j ≡ suc (n - (j + 1)) = omega arith in
     let up : suc j ≡ j + 1 = omega arith in
     rw push (append_assoc before (column rows j ∷ []) (columns rows (j + 1) (n - (j + 1)))
-      ∙ (ap (λ k. before ++ column rows j ∷ columns rows k (n - (j + 1))) (sym up) ∙ (ap (λ m. before ++ columns rows j m) (sym more) ∙ e)))
+    ∙ (ap (λ k. before ++ column rows j ∷ columns rows k (n - (j + 1))) (sym up) ∙ (ap (λ m. before ++ columns rows j m) (sym more) ∙ e)))
 
 pub flip-done : (rows now whole : List ℕ) (j n : ℕ) → j ≡ n → now ++ columns rows j (n - j) ≡ whole → now ≡ whole
 flip-done rows now whole j n last e =

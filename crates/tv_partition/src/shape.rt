@@ -4,8 +4,7 @@
 ghost use Rattle.std.specs.Prelude.{◌≡◌, ◌≤◌, ◌↔◌, ◌<◌, ◌^◌, length, slice_index, IsTrue, IfOk};
 ghost use Rattle.tv_partition.specs.Rows.{FallsFrom, IsSmall, size, has, reach, longer, column, flipped};
 
-use std::alloc::AllocError;
-use std::alloc::Global;
+use std::alloc::{AllocError, Global};
 
 pub fn is_small(rows: &[u32]) -> bool
     ensures { IsTrue result ↔ IsSmall rows.now }
