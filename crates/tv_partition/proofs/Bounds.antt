@@ -1,11 +1,29 @@
 -- A diagram has no more rows than cells, and no row longer than its size.
-use Rattle.std.proofs.Common.{ℕ, ◌≤◌, List, [], ◌∷◌, length, arith}
+use Rattle.std.proofs.Common.{ℕ, zero, suc, ◌≤◌, List, [], ◌∷◌, length, arith}
 use Rattle.std.specs.Prelude.{slice_index}
-use Rattle.tv_partition.specs.Rows.{FallsFrom, IsSmall, size}
+use Rattle.tv_partition.specs.Rows.{FallsFrom, IsDiagram, IsSmall, size}
 
-falling_rows : (top : ℕ) (rows : List ℕ) → FallsFrom top rows → length rows ≤ size rows
+pub falling_rows : (top : ℕ) (rows : List ℕ) → FallsFrom top rows → length rows ≤ size rows
 falling_rows top [] f = omega arith
 falling_rows top (row ∷ rows) f = let rest = falling_rows row rows f.2 in omega (arith, f.0)
+
+pub falling_is_diagram : (top : ℕ) (rows : List ℕ) → FallsFrom top rows → IsDiagram rows
+falling_is_diagram top [] f = tt
+falling_is_diagram top (row ∷ rows) f = (f.0, f.2)
+
+-- a diagram's rows fall from its first
+pub diagram-falls : (rows : List ℕ) → IsDiagram rows → FallsFrom (slice_index rows 0) rows
+diagram-falls [] d = tt
+diagram-falls (row ∷ rows) d = (d.0, omega arith, d.1)
+
+pub falls-row : (top : ℕ) (rows : List ℕ) → FallsFrom top rows → (i : ℕ) → slice_index rows i ≤ top
+falls-row top [] f i = omega arith
+falls-row top (row ∷ rows) f zero = f.1
+falls-row top (row ∷ rows) f (suc i) = let rest = falls-row row rows f.2 i in omega (arith, f.1)
+
+pub falls_weaker : (low top : ℕ) (rows : List ℕ) → low ≤ top → FallsFrom low rows → FallsFrom top rows
+falls_weaker low top [] l f = tt
+falls_weaker low top (row ∷ rows) l f = (f.0, omega (arith, f.1), f.2)
 
 pub few_rows : (rows : List ℕ) → IsSmall rows → length rows ≤ 24
 few_rows [] s = omega arith
@@ -15,4 +33,7 @@ pub short_rows : (rows : List ℕ) → IsSmall rows → slice_index rows 0 ≤ 2
 short_rows [] s = omega arith
 short_rows (row ∷ rows) s = omega (arith, s.1)
 
-pub ruleset bounds = (few_rows, short_rows)
+pub short_row : (rows : List ℕ) (i : ℕ) → IsSmall rows → slice_index rows i ≤ 24
+short_row rows i s = let first = short_rows rows s in let falls = falls-row (slice_index rows 0) rows (diagram-falls rows s.0) i in omega arith
+
+pub ruleset bounds = (few_rows, short_rows, short_row)

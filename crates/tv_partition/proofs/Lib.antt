@@ -1,1 +1,6 @@
 pub mod Bounds
+pub mod Flip
+pub mod Descending
+pub mod Members
+pub mod Written
+pub mod Numbered

@@ -5,9 +5,11 @@
 -- IsSmall rows   == a diagram of at most 24 cells
 -- has rows i j   == the cell (i, j) is in the diagram: j is below row i
 -- reach rows     == the least number that no entry of a cell reaches
+-- column rows j  == the number of rows longer than j
+-- flipped rows   == the rows of the diagram with the two entries of each cell exchanged
 -- diagrams n     == every diagram of n cells, each once; of two rows at the first place where they differ the greater
 --                   comes first
-use Rattle.std.specs.Prelude.{ℕ, zero, suc, ◌+◌, ◌-◌, ◌<◌, ◌≤◌, min, max, Bool, List, [], ◌∷◌, map, length, slice_index, nat_lt, ⊤}
+use Rattle.std.specs.Prelude.{ℕ, zero, suc, ◌+◌, ◌-◌, ◌<◌, ◌≤◌, min, max, Bool, cond, List, [], ◌∷◌, map, length, slice_index, nat_lt, ⊤}
 use Rattle.std.specs.List.{flat_map}
 
 -- rows below one of that length
@@ -31,6 +33,21 @@ has rows i j = nat_lt j (slice_index rows i)
 
 abbrev pub reach : List ℕ → ℕ
 reach rows = max (length rows) (slice_index rows 0)
+
+abbrev pub longer : ℕ → ℕ → ℕ
+longer j row = cond (nat_lt j row) 1 0
+
+abbrev pub column : List ℕ → ℕ → ℕ
+column [] j = 0
+column (row ∷ rows) j = longer j row + column rows j
+
+-- the columns from j on, n of them
+abbrev pub columns : List ℕ → ℕ → ℕ → List ℕ
+columns rows j zero = []
+columns rows j (suc n) = column rows j ∷ columns rows (suc j) n
+
+abbrev pub flipped : List ℕ → List ℕ
+flipped rows = columns rows 0 (slice_index rows 0)
 
 -- n, n - 1, .., 1
 abbrev pub down_from : ℕ → List ℕ

@@ -1,10 +1,15 @@
 //! A diagram of at most 24 cells, as the list of its rows. Row i is the number of cells whose first entry is i.
 
-ghost use Rattle.std.specs.Prelude.{◌≡◌, ℕ, ◌≤◌, ◌↔◌, List, [], IsSome, IfSome};
+ghost use Rattle.std.specs.Prelude.{◌≡◌, ℕ, ◌≤◌, ◌↔◌, List, [], nat_eq, slice_index, IsSome, IfSome, IfOk};
+ghost use Rattle.std.proofs.Common.{rules};
+ghost use Rattle.std.specs.Cmp.Lexicographic.{pointwise};
+ghost use Rattle.std.specs.Cmp.Rules.{comparing, hashing};
+ghost use Rattle.std.specs.Hash as fed;
 ghost use Rattle.tv_partition.specs.Rows.{IsSmall, size, has, reach};
 
 use crate::shape;
-use std::alloc::Global;
+use std::alloc::{AllocError, Global};
+use std::hash::{Hash, Hasher};
 use std::marker::Model;
 
 #[derive(Drop, Debug)]
@@ -20,6 +25,30 @@ impl Model for Diagram {
     ghost invariant = { λ d. IsSmall d.rows.items };
 }
 
+impl PartialEq for Diagram {
+    ghost eq = { pointwise nat_eq };
+
+    ghost laws = { Prim.search (comparing, rules) };
+
+    fn eq(&self, other: &Diagram) -> bool {
+        self.rows() == other.rows()
+    }
+}
+
+impl Eq for Diagram {
+    ghost laws = { Prim.search (comparing, rules) };
+}
+
+impl Hash for Diagram {
+    ghost hash_input = { fed.slice fed.u32 };
+
+    ghost respects_eq = { Prim.search (hashing, rules) };
+
+    fn hash<H: Hasher>(&self, state: &mut H) {
+        self.rows().hash(state);
+    }
+}
+
 impl Diagram {
     /// The diagram with these rows, the row of first entry 0 first.
     pub fn new(rows: Vec<u32>) -> Option<Diagram>
@@ -33,6 +62,14 @@ impl Diagram {
         }
     }
 
+    /// The diagram with these rows, which are known to be those of one.
+    pub fn of_rows(rows: Vec<u32>) -> Diagram
+        requires { IsSmall rows.items }
+        ensures { result ≡ rows.items }
+    {
+        Diagram { rows }
+    }
+
     /// The diagram without cells. It takes no memory.
     pub fn empty(alloc: Global) -> Diagram
         ensures { result ≡ [] }
@@ -40,6 +77,13 @@ impl Diagram {
         Diagram {
             rows: Vec::new(alloc),
         }
+    }
+
+    /// Tells that it is a diagram of at most 24 cells, and does nothing.
+    pub fn known(&self)
+        ensures { IsSmall self.now }
+    {
+        let _ = &self.rows;
     }
 
     pub fn rows(&self) -> &[u32]
@@ -54,6 +98,24 @@ impl Diagram {
         ensures bound { result ≤ 24 }
     {
         shape::size(self.rows.as_slice())
+    }
+
+    /// The number of cells with first entry i.
+    #[tactic(auto, using(crate::proofs::Bounds::bounds))]
+    pub fn row(&self, i: u32) -> u32
+        ensures value { result ≡ slice_index self.now i }
+        ensures bound { result ≤ 24 }
+    {
+        shape::row(self.rows.as_slice(), i)
+    }
+
+    /// The diagram with the two entries of each cell exchanged.
+    pub fn flip(&self) -> Result<Diagram, AllocError>
+        ensures exchanged { IfOk result (λ d. (i j : ℕ) → has d j i ≡ has self.now i j) }
+        ensures size { IfOk result (λ d. size d ≡ size self.now) }
+    {
+        let rows = shape::flipped(*self.rows.allocator(), self.rows.as_slice())?;
+        Ok(Diagram { rows })
     }
 
     /// The least number that no entry of a cell reaches.

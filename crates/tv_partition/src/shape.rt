@@ -1,8 +1,10 @@
 //! What can be told of a list of rows: whether it is a small diagram, how many cells it has, and whether one is in it.
 //! It keeps no rows of its own.
 
-ghost use Rattle.std.specs.Prelude.{◌≡◌, ◌≤◌, ◌↔◌, ◌<◌, ◌^◌, IsTrue};
-ghost use Rattle.tv_partition.specs.Rows.{FallsFrom, IsSmall, size, has, reach};
+ghost use Rattle.std.specs.Prelude.{◌≡◌, ◌≤◌, ◌↔◌, ◌<◌, ◌^◌, length, slice_index, IsTrue, IfOk};
+ghost use Rattle.tv_partition.specs.Rows.{FallsFrom, IsSmall, size, has, reach, longer, column, flipped};
+
+use std::alloc::{AllocError, Global};
 
 pub fn is_small(rows: &[u32]) -> bool
     ensures { IsTrue result ↔ IsSmall rows.now }
@@ -43,6 +45,46 @@ pub fn reach(rows: &[u32]) -> u32
         Some(longest) => (rows.len() as u32).max(*longest),
         None => 0,
     }
+}
+
+/// The number of cells with first entry i.
+pub fn row(rows: &[u32], i: u32) -> u32
+    ensures { result ≡ slice_index rows.now i }
+{
+    match rows.get(i as usize) {
+        Some(row) => *row,
+        None => 0,
+    }
+}
+
+fn column(rows: &[u32], j: u32) -> u32
+    requires { length rows.now < 2 ^ 32 }
+    ensures value { result ≡ column rows.now j }
+    ensures bound { result ≤ length rows.now }
+{
+    let Some((row, rest)) = rows.split_first() else {
+        return 0;
+    };
+    longer(j, *row) + column(rest, j)
+}
+
+fn longer(j: u32, row: u32) -> u32
+    ensures value { result ≡ longer j row }
+    ensures bound { result ≤ 1 }
+{
+    if j < row { 1 } else { 0 }
+}
+
+#[tactic(auto, using(crate::proofs::Flip::flips))]
+pub fn flipped(alloc: Global, rows: &[u32]) -> Result<Vec<u32>, AllocError>
+    requires { IsSmall rows.now }
+    ensures { IfOk result (λ columns. columns.items ≡ flipped rows.now) }
+{
+    let mut columns = Vec::new(alloc);
+    for j in 0..row(rows, 0) {
+        columns.push(column(rows, j))?;
+    }
+    Ok(columns)
 }
 
 pub fn has(rows: &[u32], i: u32, j: u32) -> bool
