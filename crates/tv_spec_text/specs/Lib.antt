@@ -2,6 +2,5 @@ pub mod Places
 pub mod Lines
 pub mod Files
 pub mod Reports
-pub mod Laws
 pub use Rattle.tv_spec_plane.specs.Plane
 pub use Rattle.tv_spec_plane.specs.Web

@@ -1,10 +1,10 @@
 -- The report of one corner is the report of the full series in degree 0, and a count that is too wide is a crowd that is.
-use Rattle.std.proofs.Common.{◌≡◌, ℕ, ◌-◌, ◌^◌, ◌<◌, ◌≤◌, ℤ, pos, negsuc, ◌≤ℤ◌, List, [], ◌∷◌, codes, refl, sym, ◌∙◌, arith}
+use Rattle.std.proofs.Common.{◌≡◌, ℕ, ◌^◌, ◌≤◌, ℤ, pos, negsuc, ◌≤ℤ◌, List, [], ◌∷◌, codes, sym, arith}
 use Rattle.std.proofs.lemmas.Int.{ints}
 use Rattle.tv_cells.specs.Extras.{count}
 use Rattle.tv_spec_plane.specs.Web.{Web}
 use Rattle.tv_spec_text.specs.Reports.{Term, AreTerms, series_text}
-use Rattle.tv_spec_boxes.specs.Assignments.{no_legs, zeros}
+use Rattle.tv_spec_boxes.specs.Assignments.{zeros}
 use Rattle.tv_spec_boxes.specs.OneCorner.{IsOneCorner, empty_legs, corner_coefficient}
 use Rattle.tv_spec_boxes.proofs.OneCornerCount.{one_corner_coefficient}
 use Rattle.tv_spec_boxes.proofs.OneCornerClass.{one_corner_classes}

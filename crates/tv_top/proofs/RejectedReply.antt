@@ -1,5 +1,5 @@
 -- The reply to a file that is refused.
-use Rattle.std.proofs.Common.{◌≡◌, ℕ, ◌+◌, ◌<◌, ◌≤◌, ℤ, List, length, Result, Ok, Err, inl, refl, sym, arith, subst}
+use Rattle.std.proofs.Common.{◌≡◌, ℕ, ◌+◌, ℤ, List, length, Result, Ok, Err, inl, sym, arith, subst}
 use Rattle.std.specs.Io.KnownBytes.{Consumes}
 use Rattle.tv_spec_text.specs.Lines.{Word, line_text}
 use Rattle.tv_lattice.specs.declared.fault.FileFault.TheVariants.{TooLong}
@@ -11,7 +11,6 @@ use Rattle.tv_top.specs.declared.acceptance.Rejection.{Rejection}
 use Rattle.tv_top.specs.declared.acceptance.Rejection.TheVariants.{Fault}
 use Rattle.tv_top.specs.declared.reply.Answer.{Answer}
 use Rattle.tv_top.specs.declared.reply.Failure.{Failure}
-use Rattle.tv_top.specs.declared.reply.Failure.TheVariants.{Memory, Read}
 use Rattle.tv_top.specs.declared.status.Status.TheVariants.{File}
 
 rejected_reply : (ws : List Word) (io : Inputs) (rejection : Rejection) (r : Result Answer Failure) → Says r File (rejection_line rejection)

@@ -1,8 +1,8 @@
 -- Where words leave the one word list.
-use Rattle.std.proofs.Common.{◌≡◌, ◌≢◌, ℕ, zero, suc, ◌<◌, ◌≤◌, ℤ, pos, negsuc, ◌≤ℤ◌, List, [], ◌∷◌, ◌++◌, length, take, codes, refl, ap, sym, ◌∙◌, arith, subst}
+use Rattle.std.proofs.Common.{◌≡◌, ◌≢◌, ℤ, pos, List, [], ◌∷◌, codes, refl, ap, ◌∙◌, arith}
 use Rattle.std.proofs.lemmas.Int.{ints}
 use Rattle.tv_spec_text.specs.Lines.{Word, spelled}
-use Rattle.tv_spec_text.specs.Places.{Begins, IsPlace}
+use Rattle.tv_spec_text.specs.Places.{IsPlace}
 use Rattle.tv_top.specs.Commands.{IsOrder, IsSeries, IsCommand, series_words}
 
 abbrev series : Word

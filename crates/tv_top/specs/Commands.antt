@@ -5,7 +5,7 @@
 -- IsCommand ws   == the words of some command
 -- Asks ws c      == the words ask for the command
 -- IsWordsError ws e == e is the first place at which the words leave every word list
-use Rattle.std.specs.Prelude.{◌≡◌, ℕ, ℤ, pos, negsuc, ◌≤ℤ◌, List, [], ◌∷◌, codes}
+use Rattle.std.specs.Prelude.{◌≡◌, ℤ, pos, negsuc, ◌≤ℤ◌, List, [], ◌∷◌, codes}
 use Rattle.tv_spec_text.specs.Lines.{Word, spelled}
 use Rattle.tv_spec_text.specs.Places.{IsPlace}
 use Rattle.tv_top.specs.declared.command.Command.{Command}

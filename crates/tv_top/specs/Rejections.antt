@@ -5,15 +5,12 @@
 -- IsRefused bytes e   == e is such a refusal, or want of memory
 use Rattle.std.specs.Prelude.{◌≡◌, ℕ, ◌<◌, ◌≤◌, List, length, true, false, ⊤}
 use Rattle.tv_spec_plane.specs.Web.{Web}
-use Rattle.tv_spec_text.specs.Lines.{word_lines}
-use Rattle.tv_spec_text.specs.Files.{Spells}
-use Rattle.tv_lattice.specs.Limits.{IsWithinLimits}
 use Rattle.tv_lattice.specs.declared.fault.FileFault.{FileFault}
 use Rattle.tv_lattice.specs.declared.fault.FileFault.TheVariants.{TooLong, Json}
 use Rattle.tv_lattice.specs.declared.fault.InputError.TheVariants.{Fault as Refusal}
-use Rattle.tv_text.specs.Faults.{IsTextFault}
+use Rattle.tv_text.specs.Faults.{IsText, IsTextFault}
 use Rattle.tv_spec_boxes.specs.OneCorner.{IsOneCorner}
-use Rattle.tv_top.specs.Acceptance.{is_json, IsText}
+use Rattle.tv_top.specs.Acceptance.{is_json}
 use Rattle.tv_top.specs.declared.acceptance.Rejection.{Rejection}
 use Rattle.tv_top.specs.declared.acceptance.Rejection.TheVariants.{Fault, NotOneCorner}
 use Rattle.tv_top.specs.declared.acceptance.AcceptError.{AcceptError}
@@ -26,9 +23,8 @@ FaultOf bytes f = (is_json bytes ≡ false) × IsTextFault bytes (Refusal f)
 
 pub record IsNoCorner (bytes : List ℕ) : Type 0 where
   pub web : Web
-  pub text : IsText bytes
-  pub spelled : Spells (word_lines bytes) web
-  pub limits : IsWithinLimits web
+  pub not_json : is_json bytes ≡ false
+  pub text : IsText bytes web
   pub other : IsOneCorner web → ⊥
 
 abbrev pub IsRejected : List ℕ → Rejection → Type 0

@@ -7,7 +7,7 @@
 -- Replies ws io r               == the answer and its status are deserved; a failure is one of reading that is
 --                                  deserved, or want of memory
 -- Says r status line            == the answer has the status and the line; a failure is want of memory
-use Rattle.std.specs.Prelude.{◌≡◌, ℤ, List, ℕ, [], ◌∷◌, Result, MatchResult, codes, ⊤}
+use Rattle.std.specs.Prelude.{◌≡◌, ℤ, List, ℕ, Result, MatchResult, ⊤}
 use Rattle.tv_spec_plane.specs.Web.{Web}
 use Rattle.tv_spec_text.specs.Lines.{Word, Line, line_text}
 use Rattle.tv_top.specs.Acceptance.{IsAccepted}

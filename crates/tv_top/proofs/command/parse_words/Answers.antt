@@ -1,6 +1,4 @@
-use Rattle.std.proofs.Common.{List, ℕ, ◌∷◌, ap, ◌∙◌, codes}
-use Rattle.tv_spec_text.specs.Lines.{Word}
-use Rattle.tv_top.proofs.WordPlaces.{place_0, place_1, place_2, place_3, place_4, words_of_series, behind_one, behind_two}
+use Rattle.tv_top.proofs.WordPlaces.{place_0, place_1, place_2, place_3, behind_one, behind_two}
 use Rattle.tv_top.proofs.command.parse_words.Goals as goal
 
 pub returns-in_default : goal.returns-in_default

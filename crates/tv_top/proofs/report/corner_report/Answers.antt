@@ -2,7 +2,6 @@ use Rattle.std.proofs.Common.{◌≡◌, List, ℤ, ap, ◌∙◌, pos, codes, �
 use Rattle.std.proofs.lemmas.Int.{to_z-of_z}
 use Rattle.tv_spec_plane.specs.Web.{Web}
 use Rattle.tv_spec_text.specs.Reports.{series_text}
-use Rattle.tv_plain.specs.declared.fault.CountFault.{CountFault}
 use Rattle.tv_plain.specs.declared.fault.CountFault.TheVariants.{Wide}
 use Rattle.tv_top.specs.CornerTerms.{zero_section}
 use Rattle.tv_top.proofs.CornerReport.{corner_is_full, wide_count}
