@@ -1,0 +1,9 @@
+//! Laws of matched edges and of tilings: each function does nothing, and its contract is a law.
+
+ghost use Rattle.tv_tiling.specs.Laws.{MatchedTrianglesTile};
+
+/// Unimodular triangles whose directed edges match, among themselves and with the hull, tile it: each generic rational
+/// point in the hull is in exactly one of them, and no other generic rational point is in any.
+pub fn matched_triangles_tile()
+    ensures { MatchedTrianglesTile }
+{}
