@@ -57,3 +57,18 @@ diff-mul a b c d = diff-mul_at a b c d (diff a b) (diff c d) refl refl
 -- with a goal over integers z, rewritten by (diff_of z).2 for each of them:
 -- rw ((diff_of y).2, (diff_of z).2) (simp diffs (diff-same _ _ _ _ (omega arith)))
 pub ruleset diffs = (diff-add, diff-neg, diff-mul)
+
+pub mul-sub : (a b c : ℤ) → a *ℤ (b -ℤ c) ≡ (a *ℤ b) -ℤ (a *ℤ c)
+mul-sub a b c =
+    let r = diff_of a in let s = diff_of b in let t = diff_of c in
+    rw (r.2, s.2, t.2) (simp diffs (diff-same _ _ _ _ (omega arith)))
+
+pub sub-mul : (a b c : ℤ) → (a -ℤ b) *ℤ c ≡ (a *ℤ c) -ℤ (b *ℤ c)
+sub-mul a b c =
+    let r = diff_of a in let s = diff_of b in let t = diff_of c in
+    rw (r.2, s.2, t.2) (simp diffs (diff-same _ _ _ _ (omega arith)))
+
+pub mul-swap : (a b : ℤ) → a *ℤ b ≡ b *ℤ a
+mul-swap a b =
+    let r = diff_of a in let s = diff_of b in
+    rw (r.2, s.2) (simp diffs (diff-same _ _ _ _ (omega arith)))

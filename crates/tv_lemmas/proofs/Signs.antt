@@ -1,7 +1,7 @@
 -- Signs of integers, of products and as Bool tests.
 --
 -- positive z == the test of 0 < z
-use Rattle.std.specs.Prelude.{◌≡◌, ◌≢◌, zero, suc, Bool, true, false, ℤ, pos, negsuc, ◌*ℤ◌, ◌≤ℤ◌, ◌<ℤ◌, ◌⊎◌, int_lt}
+use Rattle.std.specs.Prelude.{◌+ℤ◌, ◌-ℤ◌, ◌≡◌, ◌≢◌, zero, suc, Bool, true, false, ℤ, pos, negsuc, ◌*ℤ◌, ◌≤ℤ◌, ◌<ℤ◌, ◌⊎◌, int_lt}
 use Rattle.std.proofs.Common.{refl, arith, inl, inr}
 use Rattle.std.proofs.lemmas.Int.{ints}
 
@@ -92,6 +92,41 @@ factor-zero a b e apart = elim (sign a) [
   | inr (inl same) ↦ same
   | inr (inr more) ↦ absurd (apart (mul-zero a b more e))
 ]
+
+-- 1 has no factors but itself and -1
+pub factor-one : (a b : ℤ) → pos 0 ≤ℤ a → a *ℤ b ≡ pos 1 → a ≡ pos 1
+factor-one (pos zero) b h e = absurd (omega (arith, ints))
+factor-one (pos (suc zero)) b h e = refl
+factor-one (pos (suc (suc m))) (pos zero) h e = absurd (omega (arith, ints))
+factor-one (pos (suc (suc m))) (pos (suc n)) h e = absurd (omega (arith, ints))
+factor-one (pos (suc (suc m))) (negsuc n) h e = absurd (omega (arith, ints))
+factor-one (negsuc m) b h e = absurd (omega (arith, ints))
+
+-- squares, and an integer with the one before it
+pub square-nonneg : (a : ℤ) → pos 0 ≤ℤ (a *ℤ a)
+square-nonneg (pos n) = omega (arith, ints)
+square-nonneg (negsuc n) = omega (arith, ints)
+
+pub squares-positive : (a b : ℤ) → (a ≡ pos 0 → b ≡ pos 0 → ⊥) → pos 0 <ℤ ((a *ℤ a) +ℤ (b *ℤ b))
+squares-positive a b apart = elim (sign a) [
+  | inl less ↦ omega (arith, ints, mul-neg-neg a a less less, square-nonneg b)
+  | inr (inl same) ↦ elim (sign b) [
+    | inl less ↦ omega (arith, ints, mul-neg-neg b b less less, square-nonneg a)
+    | inr (inl none) ↦ absurd (apart same none)
+    | inr (inr more) ↦ omega (arith, ints, mul-pos-pos b b more more, square-nonneg a)
+  ]
+  | inr (inr more) ↦ omega (arith, ints, mul-pos-pos a a more more, square-nonneg b)
+]
+
+neighbours_by : (a b : ℤ) → b ≡ a -ℤ pos 1 → pos 0 ≤ℤ (a *ℤ b)
+neighbours_by (pos zero) b e = omega (arith, ints)
+neighbours_by (pos (suc m)) (pos n) e = omega (arith, ints)
+neighbours_by (pos (suc m)) (negsuc n) e = absurd (omega (arith, ints))
+neighbours_by (negsuc m) (pos n) e = absurd (omega (arith, ints))
+neighbours_by (negsuc m) (negsuc n) e = omega (arith, ints)
+
+pub neighbours-nonneg : (a : ℤ) → pos 0 ≤ℤ (a *ℤ (a -ℤ pos 1))
+neighbours-nonneg a = neighbours_by a (a -ℤ pos 1) refl
 
 -- as a Bool test
 abbrev pub positive : ℤ → Bool

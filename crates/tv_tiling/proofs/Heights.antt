@@ -9,9 +9,8 @@ use Rattle.tv_spec_plane.specs.Plane.{Point, at, turn}
 use Rattle.tv_spec_plane.specs.Tiling.{Rational, side}
 use Rattle.tv_spec_hull.specs.Hull.{IsLess}
 use Rattle.tv_tiling.specs.Small.{IsSmall, AreSmall}
-use Rattle.tv_lemmas.proofs.Integers.{diff, diff_of, diff-same, diffs, diff-pos}
+use Rattle.tv_lemmas.proofs.Integers.{mul-sub, mul-swap, diff, diff_of, diff-same, diffs, diff-pos}
 use Rattle.tv_lemmas.proofs.Signs.{sign, mul-pos-pos, mul-positive, mul-pos-neg, mul-negative, factor-zero}
-use Rattle.std.proofs.Math.IntN.{*ℤ_comm as mul-comm}
 use Rattle.tv_tiling.proofs.Lists.{all-everywhere}
 use Rattle.tv_tiling.proofs.Turns.{side-sum, side-frame, side-spread, turn-flat}
 use Rattle.tv_tiling.proofs.Crossings.{IsWeighted}
@@ -60,15 +59,10 @@ height-flat a b c apart e f =
 unfoldable pub lift : Rational → Point → ℤ
 lift p a = (pos p.k *ℤ height a) -ℤ side base tilt p
 
-scale-sub : (k s t : ℤ) → k *ℤ (s -ℤ t) ≡ (k *ℤ s) -ℤ (k *ℤ t)
-scale-sub k s t =
-    let a = diff_of k in let b = diff_of s in let c = diff_of t in
-    rw (a.2, b.2, c.2) (simp diffs (diff-same _ _ _ _ (omega arith)))
-
 scale-less : (k : ℕ) (s t h : ℤ) → 0 < k → s <ℤ t → ((pos k *ℤ s) -ℤ h) <ℤ ((pos k *ℤ t) -ℤ h)
 scale-less k s t h positive less =
     let d = mul-pos-pos (pos k) (t -ℤ s) (omega (arith, ints)) (omega (arith, ints)) in
-    let e = scale-sub (pos k) t s in
+    let e = mul-sub (pos k) t s in
     omega (arith, ints)
 
 pub lift-less : (p : Rational) (a b : Point) → 0 < p.k → height a <ℤ height b → lift p a <ℤ lift p b
@@ -108,7 +102,7 @@ pub record AreApart (a b c : Point) (p : Rational) : Type 0 where
 
 scale-same : (k : ℕ) (s t h : ℤ) → 0 < k → (pos k *ℤ s) -ℤ h ≡ pos 0 → (pos k *ℤ t) -ℤ h ≡ pos 0 → s ≡ t
 scale-same k s t h positive e f =
-    let g : (s -ℤ t) *ℤ pos k ≡ pos 0 = mul-comm (s -ℤ t) (pos k) ∙ (scale-sub (pos k) s t ∙ omega (arith, ints)) in
+    let g : (s -ℤ t) *ℤ pos k ≡ pos 0 = mul-swap (s -ℤ t) (pos k) ∙ (mul-sub (pos k) s t ∙ omega (arith, ints)) in
     let d : s -ℤ t ≡ pos 0 = factor-zero (s -ℤ t) (pos k) g (λ z. omega (arith, ints)) in
     omega (arith, ints)
 

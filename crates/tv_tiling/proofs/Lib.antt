@@ -7,3 +7,8 @@ pub mod Runs
 pub mod Sides
 pub mod Insides
 pub mod Matched
+pub mod Spots
+pub mod Corners
+pub mod Between
+pub mod Tiled
+pub mod Exchanges

@@ -1,18 +1,18 @@
 -- Turns and sides, as polynomials: how the turns of a point or the sides of a rational point over one triangle give
 -- those over every other line.
 use Rattle.std.specs.Prelude.{◌≡◌, ◌≢◌, ℤ, pos, ◌+ℤ◌, ◌-ℤ◌, ◌*ℤ◌, neg_ℤ}
-use Rattle.std.proofs.Common.{refl, ap, subst, ◌∙◌, arith}
+use Rattle.std.proofs.Common.{sym, refl, ap, subst, ◌∙◌, arith}
 use Rattle.std.proofs.lemmas.Int.{ints}
 use Rattle.tv_spec_plane.specs.Plane.{Point, turn}
 use Rattle.tv_spec_plane.specs.Tiling.{Rational, side}
 use Rattle.tv_lemmas.proofs.Signs.{factor-zero}
 use Rattle.tv_lemmas.proofs.Integers.{diff_of, diff-pos, diff-same, diffs}
 
-turn-is : (a b c : Point) → turn a b c ≡ ((b.x -ℤ a.x) *ℤ (c.y -ℤ a.y)) -ℤ ((b.y -ℤ a.y) *ℤ (c.x -ℤ a.x))
+pub turn-is : (a b c : Point) → turn a b c ≡ ((b.x -ℤ a.x) *ℤ (c.y -ℤ a.y)) -ℤ ((b.y -ℤ a.y) *ℤ (c.x -ℤ a.x))
 unfolding turn
 turn-is a b c = refl
 
-side-is : (a b : Point) (p : Rational) → side a b p ≡ ((b.x -ℤ a.x) *ℤ (p.y -ℤ (pos p.k *ℤ a.y))) -ℤ ((b.y -ℤ a.y) *ℤ (p.x -ℤ (pos p.k *ℤ a.x)))
+pub side-is : (a b : Point) (p : Rational) → side a b p ≡ ((b.x -ℤ a.x) *ℤ (p.y -ℤ (pos p.k *ℤ a.y))) -ℤ ((b.y -ℤ a.y) *ℤ (p.x -ℤ (pos p.k *ℤ a.x)))
 unfolding side
 side-is a b p = refl
 
@@ -138,12 +138,32 @@ turn-flat a b c e f apart same_b same_c =
     point-same e f (omega (arith, ints)) (omega (arith, ints))
 
 -- the points where p is whole
-pub whole : Point → Rational
+abbrev pub whole : Point → Rational
 whole c = record { x = c.x; y = c.y; k = 1 }
 
 one-left : (a : ℤ) → pos 1 *ℤ a ≡ a
 one-left a = omega (arith, ints)
 
 pub side-whole : (a b c : Point) → side a b (whole c) ≡ turn a b c
-unfolding side turn whole
+unfolding side turn
 side-whole a b c = simp one-left
+
+-- the same of turns, which are the sides of whole points
+pub turn-sum : (a b c p : Point) → turn a b p +ℤ (turn b c p +ℤ turn c a p) ≡ turn a b c
+turn-sum a b c p =
+    let h : side a b (whole p) +ℤ (side b c (whole p) +ℤ side c a (whole p)) ≡ turn a b c = side-sum a b c (whole p) ∙ one-left (turn a b c) in
+    rw (side-whole a b p, side-whole b c p, side-whole c a p) at h
+
+pub turn-spread : (a b c e f p : Point) → turn a b c ≡ pos 1 → turn e f p ≡ (turn b c p *ℤ turn e f a) +ℤ ((turn c a p *ℤ turn e f b) +ℤ (turn a b p *ℤ turn e f c))
+turn-spread a b c e f p one =
+    let h = side-spread a b c e f (whole p) one in
+    rw (side-whole e f p, side-whole b c p, side-whole c a p, side-whole a b p) at h
+
+pub turn-last : (a b : Point) → turn a b a ≡ pos 0
+turn-last a b = turn-rotate a a b ∙ turn-first a b
+
+pub turn-second : (a b : Point) → turn a b b ≡ pos 0
+turn-second a b = turn-rotate b a b ∙ turn-last b a
+
+pub turn-back : (a b c : Point) → turn b a c ≡ neg_ℤ (turn a b c)
+turn-back a b c = sym (turn-rotate b a c) ∙ turn-exchange a b c
