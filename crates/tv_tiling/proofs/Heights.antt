@@ -8,7 +8,7 @@ use Rattle.std.proofs.lemmas.Int.{ints}
 use Rattle.tv_spec_plane.specs.Plane.{Point, at, turn}
 use Rattle.tv_spec_plane.specs.Tiling.{Rational, side}
 use Rattle.tv_spec_hull.specs.Hull.{IsLess}
-use Rattle.tv_tiling.specs.Small.{IsSmall, AreSmall}
+use Rattle.tv_tiling.specs.Points.{IsSmall, AreSmall}
 use Rattle.tv_lemmas.proofs.Integers.{mul-sub, mul-swap, diff, diff_of, diff-same, diffs, diff-pos}
 use Rattle.tv_lemmas.proofs.Signs.{sign, mul-pos-pos, mul-positive, mul-pos-neg, mul-negative, factor-zero}
 use Rattle.tv_tiling.proofs.Lists.{all-everywhere}

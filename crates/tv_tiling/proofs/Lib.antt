@@ -10,5 +10,8 @@ pub mod Matched
 pub mod Spots
 pub mod Corners
 pub mod Between
+pub mod HullSpots
+pub mod Neighbours
 pub mod Tiled
 pub mod Exchanges
+mod Examples

@@ -10,13 +10,15 @@ use Rattle.tv_spec_plane.specs.Plane.{Point, Segment}
 use Rattle.tv_spec_plane.specs.Tiling.{Tiles, triangle_at}
 use Rattle.tv_spec_hull.specs.Hull.{IsHull}
 use Rattle.tv_spec_hull.specs.Edges.{AreTurned, IsMatched}
-use Rattle.tv_tiling.specs.Small.{AreSmall, AreDistinct}
+use Rattle.tv_tiling.specs.Points.{AreSmall, AreDistinct, IsSpread}
 
+-- spread: where all points are one, no triangles match, but each rational point is in the hull and in no triangle
 abbrev pub MatchedTrianglesTile : Type 0
-MatchedTrianglesTile = (ps : List Point) (ts : List Triple) (hull : List Segment) → AreSmall ps → 0 < length ts → IsHull ps hull → AreTurned ps ts → IsMatched hull ts → Tiles ps ts
+MatchedTrianglesTile = (ps : List Point) (ts : List Triple) (hull : List Segment) → AreSmall ps → IsSpread ps → IsHull ps hull → AreTurned ps ts → IsMatched hull ts → Tiles ps ts
 
+-- spread: two points alone are tiled by no triangles, but their two hull segments are no sides
 abbrev pub TilingTrianglesMatch : Type 0
-TilingTrianglesMatch = (ps : List Point) (ts : List Triple) (hull : List Segment) → AreSmall ps → AreDistinct ps → 0 < length ts → IsHull ps hull → AreTurned ps ts → Tiles ps ts → IsMatched hull ts
+TilingTrianglesMatch = (ps : List Point) (ts : List Triple) (hull : List Segment) → AreSmall ps → AreDistinct ps → IsSpread ps → IsHull ps hull → AreTurned ps ts → Tiles ps ts → IsMatched hull ts
 
 abbrev pub IsExchange : Triple → Triple → Type 0
 IsExchange t u = (u ≡ t) ⊎ (u ≡ record { a = t.a; b = t.c; c = t.b })
