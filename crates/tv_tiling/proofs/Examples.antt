@@ -9,6 +9,7 @@ use Rattle.tv_spec_hull.specs.Members.{Among}
 use Rattle.tv_spec_hull.specs.Hull.{IsLess, IsHull}
 use Rattle.tv_spec_hull.specs.Edges.{AreTurned, IsMatched}
 use Rattle.tv_tiling.specs.Points.{AreSmall, IsSpread}
+use Rattle.tv_tiling.proofs.Heights.{not-less}
 use Rattle.tv_tiling.proofs.Matched.{matched_triangles_tile}
 
 abbrev points : List Point
@@ -75,10 +76,6 @@ hull-whole = by_three (λ a. (b : ℕ) → b < 3 → IsHullSegment points a b �
     (by_three (λ b. IsHullSegment points 2 b → Among (2, b) hull) (λ h. inr (inr (inl refl))) (segment-not_back 2 1 0 (omega arith) (omega (arith, ints))) (λ h. absurd (h.apart refl)))
 
 -- ---- the sides go round, each once
-not-less : (p q : Point) → (p.x <ℤ q.x → ⊥) → (p.x ≡ q.x → p.y <ℤ q.y → ⊥) → IsLess p q → ⊥
-not-less p q f g (inl h) = f h
-not-less p q f g (inr h) = g h.0 h.1
-
 hull_is_hull : IsHull points hull
 hull_is_hull = record {
   round = record {

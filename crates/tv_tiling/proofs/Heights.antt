@@ -48,6 +48,10 @@ by_less p q s t e f hp hq h = elim (sign (q.x -ℤ p.x)) [
 pub height-less : (p q : Point) → IsSmall p → IsSmall q → height p <ℤ height q → IsLess p q
 height-less p q hp hq h = by_less p q (height p) (height q) (height-is p) (height-is q) hp hq h
 
+pub not-less : (p q : Point) → (p.x <ℤ q.x → ⊥) → (p.x ≡ q.x → p.y <ℤ q.y → ⊥) → IsLess p q → ⊥
+not-less p q f g (inl h) = f h
+not-less p q f g (inr h) = g h.0 h.1
+
 -- three points of one height are on a line
 pub height-flat : (a b c : Point) → turn a b c ≢ pos 0 → height b ≡ height a → height c ≡ height a → ⊥
 unfolding height

@@ -16,10 +16,10 @@ use Rattle.tv_tiling.proofs.Heights.{at-small}
 use Rattle.tv_tiling.proofs.Turns.{turn-rotate, turn-last, turn-second, turn-sum, turn-spread}
 use Rattle.tv_tiling.proofs.Sides.{turned-at, IsThird, third-apart, IsSide, side-of, sides-once}
 use Rattle.tv_tiling.proofs.Insides.{triangle-left}
-use Rattle.tv_tiling.proofs.Spots.{spot, Leads, mirror, turn-mirror, spot-leads, leads-spot, spot-generic, spot-left}
-use Rattle.tv_tiling.proofs.HullSpots.{place-third, place-mirror, mirror-turn, mirror-hull}
-use Rattle.tv_tiling.proofs.Corners.{corner-nonneg, corner-same, IsCorner, spot-corner, corner-facing}
-use Rattle.tv_tiling.proofs.Between.{primitive-bare}
+use Rattle.tv_tiling_converse.proofs.Spots.{spot, Leads, mirror, turn-mirror, spot-leads, leads-spot, spot-generic, spot-left}
+use Rattle.tv_tiling_converse.proofs.HullSpots.{place-third, place-mirror, mirror-turn, mirror-hull}
+use Rattle.tv_tiling_converse.proofs.Corners.{corner-nonneg, corner-same, IsCorner, spot-corner, corner-facing}
+use Rattle.tv_tiling_converse.proofs.Between.{primitive-bare}
 
 -- b = a + v (e - a) + w (f - a), seen from c over a: a, e, f, b have the turns x, y, z, t there
 never-by : (u v w x y z t : ℤ) → t ≡ (u *ℤ x) +ℤ ((v *ℤ y) +ℤ (w *ℤ z)) → x ≡ pos 0 → w ≡ pos 0 → t ≡ pos 1 → pos 0 ≤ℤ v → y <ℤ pos 0 → ⊥

@@ -10,16 +10,16 @@ use Rattle.tv_spec_hull.specs.Hull.{IsHull}
 use Rattle.tv_spec_hull.specs.Edges.{sides, edges, AreTurned}
 use Rattle.tv_lemmas.proofs.Signs.{nonneg-positive, sign}
 use Rattle.tv_tiling.specs.Points.{AreSmall, AreDistinct, IsSpread}
-use Rattle.tv_tiling.specs.Laws.{TilingTrianglesMatch}
+use Rattle.tv_tiling_converse.specs.Laws.{TilingTrianglesMatch}
 use Rattle.tv_tiling.proofs.Lists.{among-flat_map}
 use Rattle.tv_tiling.proofs.Turns.{turn-rotate, turn-exchange, turn-apart, turn-sum, turn-flat}
 use Rattle.tv_tiling.proofs.Sides.{turned-at}
 use Rattle.tv_tiling.proofs.Insides.{triangle-left}
-use Rattle.tv_tiling.proofs.Spots.{spot, spot-generic}
-use Rattle.tv_tiling.proofs.Neighbours.{edges-once, edges-matched}
-use Rattle.tv_tiling.proofs.HullSpots.{place-third, near-hull}
-use Rattle.tv_tiling.proofs.Corners.{corner-nonneg, corner-same, spot-corner, corner-facing}
-use Rattle.tv_tiling.proofs.Between.{turn-on_line, beyond-between}
+use Rattle.tv_tiling_converse.proofs.Spots.{spot, spot-generic}
+use Rattle.tv_tiling_converse.proofs.Neighbours.{edges-once, edges-matched}
+use Rattle.tv_tiling_converse.proofs.HullSpots.{place-third, near-hull}
+use Rattle.tv_tiling_converse.proofs.Corners.{corner-nonneg, corner-same, spot-corner, corner-facing}
+use Rattle.tv_tiling_converse.proofs.Between.{turn-on_line, beyond-between}
 
 -- some listed point is strictly left of a hull segment
 hull-third : (ps : List Point) → IsSpread ps → (a b : ℕ) → IsHullSegment ps a b → (c : ℕ) × (c < length ps) × (pos 0 <ℤ turn (at ps a) (at ps b) (at ps c))

@@ -11,7 +11,7 @@ use Rattle.tv_lemmas.proofs.Signs.{sign}
 use Rattle.tv_tiling.specs.Points.{AreSmall, AreDistinct}
 use Rattle.tv_tiling.proofs.Heights.{at-small}
 use Rattle.tv_tiling.proofs.Turns.{turn-rotate, turn-last, turn-second, turn-back, turn-sum, turn-flat}
-use Rattle.tv_tiling.proofs.Spots.{spot, Leads, IsPlace, spot-leads}
+use Rattle.tv_tiling_converse.proofs.Spots.{spot, Leads, IsPlace, spot-leads}
 
 -- a point on the lines of both sides at a corner is the corner
 pub corner-same : (d e f p : Point) → turn d e f ≡ pos 1 → turn d e p ≡ pos 0 → turn f d p ≡ pos 0 → p ≡ d

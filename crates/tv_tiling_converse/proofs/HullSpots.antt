@@ -10,7 +10,7 @@ use Rattle.tv_tiling.specs.Points.{AreSmall}
 use Rattle.tv_tiling.proofs.Heights.{at-small}
 use Rattle.tv_tiling.proofs.Turns.{turn-last, turn-spread, turn-flat}
 use Rattle.tv_tiling.proofs.Sides.{IsThird}
-use Rattle.tv_tiling.proofs.Spots.{spot, Leads, IsPlace, small-near, mirror, mirror-near, turn-mirror, leads-spot}
+use Rattle.tv_tiling_converse.proofs.Spots.{spot, Leads, IsPlace, small-near, mirror, mirror-near, turn-mirror, leads-spot}
 
 lead-hull_zero : (a b c k u v w : ℤ) → k ≡ (u *ℤ a) +ℤ ((v *ℤ b) +ℤ (w *ℤ c)) → pos 0 ≤ℤ c → pos 0 ≤ℤ k → w <ℤ pos 0 → a ≡ pos 0 → b ≡ pos 0 → c ≡ pos 0
 lead-hull_zero a b c k u v w e hc hk hw ea eb =
