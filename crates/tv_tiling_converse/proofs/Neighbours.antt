@@ -4,7 +4,7 @@ use Rattle.std.specs.Prelude.{◌≡◌, ℕ, ◌<◌, ℤ, pos, ◌+ℤ◌, ◌
 use Rattle.std.proofs.Common.{sym, subst, ◌∙◌, arith, inl, inr}
 use Rattle.std.proofs.lemmas.Int.{ints}
 use Rattle.tv_spec_plane.specs.declared.records.Triple.{Triple}
-use Rattle.tv_spec_plane.specs.Plane.{Point, at, turn, Segment}
+use Rattle.tv_spec_plane.specs.Plane.{Point, at, turn, Segment, IsHullSegment}
 use Rattle.tv_spec_plane.specs.Tiling.{Rational, side, IsGeneric, IsInHull, IsLeft, IsInTriangle, triangle_at, Tiles}
 use Rattle.tv_spec_hull.specs.Members.{Among, Once}
 use Rattle.tv_spec_hull.specs.Hull.{IsHull}
@@ -127,20 +127,23 @@ module _ (ps : List Point) (ts : List Triple) (small : AreSmall ps) (distinct : 
       ]
 
 -- a side with no listed point beyond it is a hull segment
-side-hull : (ps : List Point) (hull : List Segment) → IsHull ps hull → (s : Segment) (c : ℕ) → IsThird ps s c → ((k : ℕ) → k < length ps → pos 0 ≤ℤ turn (at ps s.0) (at ps s.1) (at ps k)) → Among s hull
-side-hull ps hull is_hull s c third left = is_hull.whole s.0 s.1 (record {
+side-outer : (ps : List Point) (s : Segment) (c : ℕ) → IsThird ps s c → ((k : ℕ) → k < length ps → pos 0 ≤ℤ turn (at ps s.0) (at ps s.1) (at ps k)) → IsHullSegment ps s.0 s.1
+side-outer ps s c third left = record {
   first_listed = third.first;
   second_listed = third.second;
   apart = third-apart ps s c third;
   left = left;
   bare = λ k h between. primitive-bare ps s.0 s.1 k (at ps c) third.turned between;
-})
+}
 
-pub edges-matched : (ps : List Point) (ts : List Triple) (hull : List Segment) → AreSmall ps → AreDistinct ps → IsHull ps hull → AreTurned ps ts → Tiles ps ts → (s : Segment) → Among s (edges ts) → Among (back s) (edges ts) ⊎ Among s hull
-edges-matched ps ts hull small distinct is_hull turned tiles s m =
+pub edges-outer : (ps : List Point) (ts : List Triple) → AreSmall ps → AreDistinct ps → AreTurned ps ts → Tiles ps ts → (s : Segment) → Among s (edges ts) → Among (back s) (edges ts) ⊎ IsHullSegment ps s.0 s.1
+edges-outer ps ts small distinct turned tiles s m =
     let place = flat_map-among sides (record { a = 0; b = 0; c = 0 }) s ts m in
     let c = side-of ps (triangle_at ts place.0) s (turned-at ps ts turned place.0 place.1) place.2 in
     elim (find-negative (λ (q : Point). turn (at ps s.0) (at ps s.1) q) (record { x = pos 0; y = pos 0 }) ps) [
-      | inl left ↦ inr (side-hull ps hull is_hull s c.0 c.1.third left)
+      | inl left ↦ inr (side-outer ps s c.0 c.1.third left)
       | inr beyond ↦ inl (beyond-side ps ts small distinct turned tiles s place.0 c.0 place.1 c.1 (mirror-hull ps small s c.0 beyond.0 c.1.third beyond.1 beyond.2))
     ]
+
+pub edges-matched : (ps : List Point) (ts : List Triple) (hull : List Segment) → AreSmall ps → AreDistinct ps → IsHull ps hull → AreTurned ps ts → Tiles ps ts → (s : Segment) → Among s (edges ts) → Among (back s) (edges ts) ⊎ Among s hull
+edges-matched ps ts hull small distinct is_hull turned tiles s m = elim (edges-outer ps ts small distinct turned tiles s m) [ inl b ↦ inl b | inr outer ↦ inr (is_hull.whole s.0 s.1 outer) ]

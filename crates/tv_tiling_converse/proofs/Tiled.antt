@@ -49,9 +49,8 @@ hull-corner ps a b e f h listed one out home =
       | inr (inr more) ↦ absurd (h.bare e listed (beyond-between ps a b e (turn (at ps f) (at ps a) (at ps b)) (turn-apart (at ps a) (at ps e) (at ps f) one) on line (omega (arith, ints))))
     ]
 
-hull-covered : (ps : List Point) (ts : List Triple) (hull : List Segment) → AreSmall ps → AreDistinct ps → IsSpread ps → IsHull ps hull → AreTurned ps ts → Tiles ps ts → (s : Segment) → Among s hull → Among s (edges ts)
-hull-covered ps ts hull small distinct spread is_hull turned tiles s m =
-    let h = is_hull.each s.0 s.1 m in
+pub outer-covered : (ps : List Point) (ts : List Triple) → AreSmall ps → AreDistinct ps → IsSpread ps → AreTurned ps ts → Tiles ps ts → (s : Segment) → IsHullSegment ps s.0 s.1 → Among s (edges ts)
+outer-covered ps ts small distinct spread turned tiles s h =
     let c = hull-third ps spread s.0 s.1 h in
     let place = place-third ps small s c.0 in
     let apart : turn (at ps s.0) (at ps s.1) (at ps c.0) ≢ pos 0 = λ z. let more = c.2 in omega (arith, ints) in
@@ -66,5 +65,5 @@ pub tiling_triangles_match : TilingTrianglesMatch
 tiling_triangles_match ps ts hull small distinct spread is_hull turned tiles = record {
   once = edges-once ps ts small distinct turned tiles;
   matched = edges-matched ps ts hull small distinct is_hull turned tiles;
-  covered = hull-covered ps ts hull small distinct spread is_hull turned tiles;
+  covered = λ s m. outer-covered ps ts small distinct spread turned tiles s (is_hull.each s.0 s.1 m);
 }
