@@ -1,0 +1,14 @@
+pub mod Turns
+pub mod Cancels
+pub mod Crossings
+pub mod Lists
+pub mod Heights
+pub mod Runs
+pub mod Sides
+pub mod Insides
+pub mod Matched
+pub mod Spots
+pub mod Corners
+pub mod Between
+pub mod Tiled
+pub mod Exchanges
