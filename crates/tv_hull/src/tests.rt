@@ -17,6 +17,7 @@ fn points(alloc: Global, list: &[(i64, i64)]) -> Result<Vec<Point>, Fail> {
 #[test]
 fn goes_round_a_corner(rt: HostRuntime) -> Result<(), Fail> {
     let corner = points(rt.alloc(), &[(0, 0), (1, 0), (0, 1)])?;
+    assert_eq!(rt; corner.len(), 3);
     let segments = hull_segments(rt.alloc(), &corner)?;
     assert_eq!(rt; segments.as_slice(), [(0, 1), (1, 2), (2, 0)].as_slice());
     Ok(())
@@ -28,6 +29,7 @@ fn stops_in_the_middle_of_a_side(rt: HostRuntime) -> Result<(), Fail> {
         rt.alloc(),
         &[(2, 2), (1, 1), (0, 0), (1, 0), (2, 0), (0, 2)],
     )?;
+    assert_eq!(rt; square.len(), 6);
     let segments = hull_segments(rt.alloc(), &square)?;
     let want = [(2, 3), (3, 4), (4, 0), (0, 5), (5, 2)];
     assert_eq!(rt; segments.as_slice(), want.as_slice());
@@ -37,6 +39,7 @@ fn stops_in_the_middle_of_a_side(rt: HostRuntime) -> Result<(), Fail> {
 #[test]
 fn names_equal_points_first(rt: HostRuntime) -> Result<(), Fail> {
     let line = points(rt.alloc(), &[(0, 0), (1, 1), (3, 3), (1, 1), (0, 0)])?;
+    assert_eq!(rt; line.len(), 5);
     let repeated = matches!(
         hull_segments(rt.alloc(), &line),
         Err(LatticeFault::Repeated(0, 4))
