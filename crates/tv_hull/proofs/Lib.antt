@@ -1,0 +1,9 @@
+pub mod Rises
+pub mod Compare
+pub mod HalfPlane
+pub mod Between
+pub mod Best
+pub mod Least
+pub mod Collinear
+pub mod Steps
+pub mod Rounds

@@ -1,0 +1,113 @@
+-- Why the best next point is the end of a hull segment, and why a way of such steps goes on along the hull.
+use Rattle.std.specs.Prelude.{◌≡◌, ℕ, ◌<◌, pos, negsuc, unsigned_abs, ◌+ℤ◌, ◌≤ℤ◌, ◌<ℤ◌, ◌⊎◌, Bool, true, false, List, [], ◌∷◌, ◌++◌, length}
+use Rattle.std.specs.List.{AllByRecursion}
+use Rattle.std.proofs.Common.{ap, subst, sym, refl, arith, inl, inr}
+use Rattle.std.proofs.lemmas.Int.{ints}
+use Rattle.tv_lattice.specs.Limits.{HasCoordinates}
+use Rattle.tv_spec_plane.specs.Plane.{Point, at, turn, Segment, IsHullSegment, IsBetween}
+use Rattle.tv_spec_hull.specs.Members.{Among}
+use Rattle.tv_hull.specs.Ways.{IsAhead, IsKept, IsBest, IsStart, IsWay}
+use Rattle.tv_hull.proofs.Rises.{rise, toward, toward-back, toward-same, turn-first, turn-rotate}
+use Rattle.tv_hull.proofs.Compare.{small-at, ahead-toward, not_ahead-toward, ahead_or_not, toward-level}
+use Rattle.tv_hull.proofs.HalfPlane.{kept-turn, behind}
+use Rattle.tv_hull.proofs.Between.{between-ahead}
+
+-- p has been passed: each point not ahead of it is on the left of the ways to the points ahead, or on their line
+abbrev pub IsPassed : List Point → Bool → ℕ → Type 0
+IsPassed ps down p = (b c : ℕ) → b < length ps → c < length ps → IsAhead down (at ps p) (at ps b) → (IsAhead down (at ps p) (at ps c) → ⊥) → pos 0 ≤ℤ turn (at ps p) (at ps b) (at ps c)
+
+turn-last : (p q r : Point) → r ≡ p → pos 0 ≤ℤ turn p q r
+turn-last p q r e = rw e (omega (arith, ints, turn-rotate p p q, turn-first p q))
+
+-- neither point is ahead of the other
+pub level : (down : Bool) (p q : Point) → HasCoordinates p → HasCoordinates q → (IsAhead down p q → ⊥) → (IsAhead down q p → ⊥) → q ≡ p
+level down p q sp sq first second =
+    sym (toward-level down p q sp sq (omega (arith, ints, not_ahead-toward down p q sp sq first, not_ahead-toward down q p sq sp second, toward-back down p q)))
+
+pub start-passed : (ps : List Point) (down : Bool) (p : ℕ) → AllByRecursion HasCoordinates ps → IsStart ps down p → IsPassed ps down p
+start-passed ps down p small start b c hb hc ahead behind = turn-last (at ps p) (at ps b) (at ps c) (level down (at ps p) (at ps c) (small-at ps p small) (small-at ps c small) behind (start.first c hc))
+
+-- the best next point b has all points on the left of the way to it
+pub best-left : (ps : List Point) (down : Bool) (p b : ℕ) → AllByRecursion HasCoordinates ps → IsPassed ps down p → IsBest ps down p (length ps) b → (k : ℕ) → k < length ps → pos 0 ≤ℤ turn (at ps p) (at ps b) (at ps k)
+best-left ps down p b small passed best k listed = elim (ahead_or_not down (at ps p) (at ps k) (small-at ps p small) (small-at ps k small)) [
+  | inl ahead ↦ kept-turn down (at ps p) (at ps b) (at ps k) (best.kept k listed ahead)
+  | inr not_ahead ↦ passed b k best.below listed best.ahead not_ahead
+]
+
+ahead_not : (down : Bool) (p q : Point) → HasCoordinates p → HasCoordinates q → pos 0 <ℤ toward down p q → (IsAhead down p q → ⊥) → ⊥
+ahead_not down p q sp sq h behind = omega (arith, ints, not_ahead-toward down p q sp sq behind)
+
+kept-beyond : (down : Bool) (p b c : Point) → HasCoordinates b → HasCoordinates c → IsKept down p b c → turn p b c ≡ pos 0 → pos 0 <ℤ toward down c b → ⊥
+kept-beyond down p b c sb sc (inl h) line nearer = omega (arith, ints)
+kept-beyond down p b c sb sc (inr h) line nearer = ahead_not down c b sc sb nearer h.1
+
+best-bare : (ps : List Point) (down : Bool) (p b k : ℕ) → AllByRecursion HasCoordinates ps → IsBest ps down p (length ps) b → k < length ps → IsBetween ps p b k → ⊥
+best-bare ps down p b k small best listed between =
+    let sp = small-at ps p small in let sb = small-at ps b small in let sk = small-at ps k small in
+    let inside = between-ahead ps down p b k (ahead-toward down (at ps p) (at ps b) sp sb best.ahead) between in
+    elim (ahead_or_not down (at ps p) (at ps k) sp sk) [
+      | inl ahead ↦ kept-beyond down (at ps p) (at ps b) (at ps k) sb sk (best.kept k listed ahead) between.on_line inside.1
+      | inr not_ahead ↦ ahead_not down (at ps p) (at ps k) sp sk inside.0 not_ahead
+    ]
+
+pub best-hull : (ps : List Point) (down : Bool) (p b : ℕ) → AllByRecursion HasCoordinates ps → p < length ps → IsPassed ps down p → IsBest ps down p (length ps) b → IsHullSegment ps p b
+best-hull ps down p b small listed passed best = record {
+  first_listed = listed;
+  second_listed = best.below;
+  apart = λ e. let h = ahead-toward down (at ps p) (at ps b) (small-at ps p small) (small-at ps b small) best.ahead in let z : toward down (at ps p) (at ps b) ≡ pos 0 = subst (λ (q : Point). toward down (at ps p) q ≡ pos 0) e (toward-same down (at ps p)) in omega (arith, ints);
+  left = best-left ps down p b small passed best;
+  bare = λ k. best-bare ps down p b k small best;
+}
+
+pub best-passed : (ps : List Point) (down : Bool) (p b : ℕ) → AllByRecursion HasCoordinates ps → IsPassed ps down p → IsBest ps down p (length ps) b → IsPassed ps down b
+best-passed ps down p b small passed best d c hd hc ahead not_ahead =
+    let sb = small-at ps b small in let sd = small-at ps d small in
+    behind down (at ps p) (at ps b) (at ps d) (at ps c) (ahead-toward down (at ps p) (at ps b) (small-at ps p small) sb best.ahead) (let h = ahead-toward down (at ps b) (at ps d) sb sd ahead in omega (arith, ints)) (not_ahead-toward down (at ps b) (at ps c) sb (small-at ps c small) not_ahead) (best-left ps down p b small passed best d hd) (best-left ps down p b small passed best c hc)
+
+-- one segment more
+pub way-push : (ps : List Point) (down : Bool) (a : ℕ) (ss : List Segment) (b c : ℕ) → IsWay ps down a ss b → IsAhead down (at ps b) (at ps c) → IsWay ps down a (ss ++ (b, c) ∷ []) c
+way-push ps down a [] b c same ahead = (sym same, ahead, refl)
+way-push ps down a (s ∷ ss) b c way ahead = (way.0, way.1, way-push ps down s.1 ss b c way.2 ahead)
+
+pub among-push : {A : Type 0} (x : A) (xs : List A) (y : A) → Among x (xs ++ y ∷ []) → Among x xs ⊎ (x ≡ y)
+among-push x [] y (inl same) = inr same
+among-push x [] y (inr none) = absurd none
+among-push x (z ∷ xs) y (inl same) = inl (inl same)
+among-push x (z ∷ xs) y (inr among) = elim (among-push x xs y among) [ inl earlier ↦ inl (inr earlier) | inr last ↦ inr last ]
+
+-- where a way has come to
+pub record IsWalked (ps : List Point) (down : Bool) (a : ℕ) (ss : List Segment) (b : ℕ) : Type 0 where
+  pub way : IsWay ps down a ss b
+  pub each : (p q : ℕ) → Among (p, q) ss → IsHullSegment ps p q
+  pub listed : b < length ps
+  pub passed : IsPassed ps down b
+
+pub walked-start : (ps : List Point) (down : Bool) (a : ℕ) → AllByRecursion HasCoordinates ps → IsStart ps down a → IsWalked ps down a [] a
+walked-start ps down a small start = record { way = refl; each = λ p q none. absurd none; listed = start.listed; passed = start-passed ps down a small start }
+
+pub walked-push : (ps : List Point) (down : Bool) (a : ℕ) (ss : List Segment) (b c : ℕ) → AllByRecursion HasCoordinates ps → IsWalked ps down a ss b → IsBest ps down b (length ps) c → IsWalked ps down a (ss ++ (b, c) ∷ []) c
+walked-push ps down a ss b c small walked best = record {
+  way = way-push ps down a ss b c walked.way best.ahead;
+  each = λ p q among. elim (among-push (p, q) ss (b, c) among) [
+    | inl earlier ↦ walked.each p q earlier
+    | inr last ↦ let first : p ≡ b = ap (λ (s : Segment). s.0) last in let second : q ≡ c = ap (λ (s : Segment). s.1) last in rw (first, second) (best-hull ps down b c small walked.listed walked.passed best)
+  ];
+  listed = best.below;
+  passed = best-passed ps down b c small walked.passed best;
+}
+
+-- how much is left of the way to the corner of the plane that it leads to
+unfoldable pub left_of : Bool → Point → ℕ
+left_of false p = unsigned_abs (rise p (record { x = pos 100; y = pos 100 }))
+left_of true p = unsigned_abs (rise (record { x = negsuc 99; y = negsuc 99 }) p)
+
+rise-add : (p q r : Point) → rise p q +ℤ rise q r ≡ rise p r
+unfolding rise
+rise-add p q r = omega (arith, ints)
+
+pub left-falls : (down : Bool) (p q : Point) → HasCoordinates p → HasCoordinates q → IsAhead down p q → left_of down q < left_of down p
+unfolding left_of rise
+left-falls false p q sp sq (inl h) = omega (arith, ints)
+left-falls false p q sp sq (inr h) = omega (arith, ints, h.0, h.1)
+left-falls true p q sp sq (inl h) = omega (arith, ints)
+left-falls true p q sp sq (inr h) = omega (arith, ints, h.0, h.1)

@@ -1,0 +1,7 @@
+pub mod Pairs
+pub mod Points
+pub mod Ways
+pub mod Faults
+pub use Rattle.tv_spec_plane.specs.Plane
+pub use Rattle.tv_spec_hull.specs.Members
+pub use Rattle.tv_spec_hull.specs.Hull

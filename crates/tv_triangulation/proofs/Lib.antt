@@ -1,0 +1,5 @@
+pub mod SegmentTests
+pub mod Sharing
+pub mod Earliest
+pub mod Turning
+pub mod Matching

@@ -1,0 +1,16 @@
+use Rattle.tv_triangulation.proofs.Matching.{misfit-fault, fits-triangulated}
+use Rattle.tv_triangulation.proofs.triangulate.triangulate.Goals as goal
+
+pub returns-in-Some-first_misfit : goal.returns-in-Some-first_misfit
+returns-in-Some-first_misfit c =
+    let ps = c.args.points.now in let ts = c.args.triangles.now in let hull = c.in_ok-hull.hull.items in
+    let known = c.in_ok-hull.ensures in
+    let misfit = rw (c.deref-2.ensures.value, c.deref-4.ensures.value, c.in_ok-turned.ensures) at c.in-Some-first_misfit.ensures in
+    rw c.refused-in-Some-first_misfit.ensures (misfit-fault ps hull known.0 ts known.1 known.2 c.in_default.ensures c.in-Some-first_misfit.fault misfit)
+
+pub new-requires : goal.new-requires
+new-requires c =
+    let ps = c.args.points.now in let ts = c.args.triangles.now in let hull = c.in_ok-hull.hull.items in
+    let known = c.in_ok-hull.ensures in
+    let fits = rw (c.deref-2.ensures.value, c.deref-4.ensures.value, c.in_ok-turned.ensures) at c.in_default-first_misfit.ensures in
+    rw (c.in_ok-points.ensures.items, c.in_ok-turned.ensures) (fits-triangulated ps hull ts known.0 known.1 known.2 c.in_default.ensures fits)

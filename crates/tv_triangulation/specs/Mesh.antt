@@ -1,0 +1,23 @@
+-- Points and triangles over them, and those whose triangles fit together.
+--
+-- Mesh               == points and triangles over them
+-- IsTriangulated m   == the triangles are unimodular and counter-clockwise, and their directed edges match among
+--                       themselves and with the hull of the points
+use Rattle.std.specs.Prelude.{List}
+use Rattle.tv_spec_plane.specs.declared.records.Triple.{Triple}
+use Rattle.tv_spec_plane.specs.Plane.{Point, Segment}
+use Rattle.tv_spec_hull.specs.Hull.{IsHull}
+use Rattle.tv_spec_hull.specs.Edges.{AreTurned, IsMatched}
+use Rattle.tv_hull.specs.Points.{AreDistinct, IsFlat}
+
+pub record Mesh : Type 0 where
+  pub points : List Point
+  pub triangles : List Triple
+
+pub record IsTriangulated (m : Mesh) : Type 0 where
+  pub hull : List Segment
+  pub distinct : AreDistinct m.points
+  pub spread : IsFlat m.points → ⊥
+  pub is_hull : IsHull m.points hull
+  pub turned : AreTurned m.points m.triangles
+  pub matched : IsMatched hull m.triangles

@@ -1,0 +1,73 @@
+//! The checks of points and triangles, in order. Limits of counts and numbers are asked of the caller.
+
+ghost use Rattle.std.specs.Prelude.{◌≡◌, ◌≤◌, length, MatchResult};
+ghost use Rattle.tv_spec_hull.specs.Hull.{IsHull};
+ghost use Rattle.tv_triangulation.specs.Checks.{AreListed};
+ghost use Rattle.tv_triangulation.specs.Faults.{IsSpread, IsAnswer, IsAccepted};
+
+use crate::area::first_uneven;
+use crate::edges::edges_of;
+use crate::index::first_unlisted;
+use crate::misfit::first_misfit;
+use crate::triangulation::Triangulation;
+use crate::turned::turned;
+use std::alloc::Global;
+use tv_hull::{LatticeFault, hull_segments};
+use tv_lattice::fault::{FileFault, InputError};
+use tv_lattice::point::Point;
+use tv_spec_plane::records::Triple;
+
+/// The points with the turned triangles, or the first check that fails: equal points, a point that isn't there, points
+/// on one line, a doubled area that isn't 1, a directed edge of two triangles, an edge that has no back and is no hull
+/// segment, a hull segment that is no edge.
+pub fn triangulate(
+    alloc: Global,
+    points: &[Point],
+    triangles: &[Triple],
+) -> Result<Triangulation, InputError>
+    requires points { length points.now ≤ 64 }
+    requires triangles { length triangles.now ≤ 128 }
+    ensures { MatchResult result (IsAccepted points.now triangles.now) (IsAnswer points.now triangles.now) }
+{
+    let hull = hull_of(alloc, points, triangles)?;
+    if let Some((t, doubled)) = first_uneven(points, triangles) {
+        return Err(refused(FileFault::Area(t as u32, doubled)));
+    }
+    let turned = turned(alloc, points, triangles)?;
+    let edges = edges_of(alloc, &turned)?;
+    if let Some(fault) = first_misfit(&turned, &edges, &hull) {
+        return Err(refused(fault));
+    }
+    let points = Vec::from_slice(alloc, points)?;
+    Ok(Triangulation::new(points, turned))
+}
+
+// The hull of distinct points that are not on one line, where the triangles name listed points.
+fn hull_of(
+    alloc: Global,
+    points: &[Point],
+    triangles: &[Triple],
+) -> Result<Vec<(u32, u32)>, InputError>
+    requires points { length points.now ≤ 64 }
+    requires triangles { length triangles.now ≤ 128 }
+    ensures { MatchResult result (λ h. IsHull points.now h.items × IsSpread points.now × AreListed points.now triangles.now) (IsAnswer points.now triangles.now) }
+{
+    match hull_segments(alloc, points) {
+        Ok(hull) => match first_unlisted(points, triangles) {
+            None => Ok(hull),
+            Some(t) => Err(refused(FileFault::Index(t as u32))),
+        },
+        Err(LatticeFault::Repeated(i, j)) => Err(refused(FileFault::Repeated(i, j))),
+        Err(LatticeFault::Flat) => match first_unlisted(points, triangles) {
+            None => Err(refused(FileFault::Flat)),
+            Some(t) => Err(refused(FileFault::Index(t as u32))),
+        },
+        Err(LatticeFault::Memory) => Err(InputError::Memory),
+    }
+}
+
+fn refused(fault: FileFault) -> InputError
+    ensures { result ≡ InputError.Fault fault }
+{
+    InputError::Fault(fault)
+}
