@@ -4,5 +4,5 @@ pub mod TermLists
 pub mod CornerTerms
 pub mod CornerReport
 pub mod RejectedReply
-pub mod OneTriangle
 pub mod Completeness
+pub mod Sound

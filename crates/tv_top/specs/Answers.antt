@@ -8,6 +8,7 @@
 -- Deserves ws io status text == the status and its text are deserved by these words and this source
 -- Told old new text rose status result == a beginning of the text was appended to the sink: all of it, with the status, or
 --                             less, with WriteFault and a count of faults that rose
+-- Reads ws io             == what was taken from the source, whatever is answered
 -- Answers                 == some status and text are deserved, and were told
 use Rattle.std.specs.Prelude.{◌≡◌, ℕ, ◌-◌, ◌^◌, ◌<◌, ◌≤◌, ◌⊎◌, ℤ, pos, List, [], ◌∷◌, length, take, map, Option, codes}
 use Rattle.std.specs.Io.KnownBytes.{Appends, Consumes, IsAtEnd}
@@ -41,8 +42,9 @@ read_text = line_text (codes "refused" ∷ codes "read" ∷ [])
 pub record Gave (io : Inputs) (bytes : List ℕ) : Type 0 where
   pub taken : Consumes io.before io.after bytes
   pub ended : IsAtEnd io.after
+  pub kept : io.faults_after ≡ io.faults_before
 
--- the report of the accepted file's series
+-- the report of the series of an accepted file of one triangle
 pub record DeservesDone (ws : List Word) (io : Inputs) (text : List ℕ) : Type 0 where
   pub upto : ℤ
   pub bytes : List ℕ
@@ -50,13 +52,13 @@ pub record DeservesDone (ws : List Word) (io : Inputs) (text : List ℕ) : Type 
   pub asked : IsSeries ws upto
   pub read : Gave io bytes
   pub accepted : IsAccepted bytes web
+  pub single : length web.triangles ≡ 1
   pub report : IsFullReport web 0 upto text
 
--- the place at which the words leave every word list; nothing is read
+-- the place at which the words leave every word list
 pub record DeservesWords (ws : List Word) (io : Inputs) (text : List ℕ) : Type 0 where
   pub place : ℕ
   pub outside : IsPlace IsCommand ws place
-  pub unread : (io.after ≡ io.before) × (io.faults_after ≡ io.faults_before)
   pub line : text ≡ line_text (codes "refused" ∷ codes "words" ∷ spelled (pos place) ∷ [])
 
 -- the first check that the file fails
@@ -66,6 +68,7 @@ pub record DeservesFile (ws : List Word) (io : Inputs) (text : List ℕ) : Type 
   pub asked : IsCommand ws
   pub taken : Consumes io.before io.after bytes
   pub ended : (length bytes ≡ 65537) ⊎ ((length bytes ≤ 65536) × IsAtEnd io.after)
+  pub kept : io.faults_after ≡ io.faults_before
   pub rejected : IsRejected bytes rejection
   pub line : text ≡ line_text (rejection_line rejection)
 
@@ -83,6 +86,7 @@ pub record DeservesWide (ws : List Word) (io : Inputs) (text : List ℕ) : Type 
   pub asked : IsSeries ws upto
   pub read : Gave io bytes
   pub accepted : IsAccepted bytes web
+  pub single : length web.triangles ≡ 1
   pub wide : IsWide web upto
   pub line : text ≡ line_text wide_crowd_line
 
@@ -111,10 +115,19 @@ pub record Told (out : Outputs) (text : List ℕ) (status result : Status) : Typ
   pub count : ℕ
   pub within : count ≤ length text
   pub appended : Appends out.before out.after (take count text)
-  pub ends : ((result ≡ status) × (count ≡ length text)) ⊎ ((result ≡ WriteFault) × Rose out.faults_before out.faults_after)
+  pub ends : ((result ≡ status) × (count ≡ length text) × (out.faults_after ≡ out.faults_before)) ⊎ ((result ≡ WriteFault) × (count < length text) × Rose out.faults_before out.faults_after)
+
+-- whatever is answered: at most 65,537 bytes are taken, from the front, and none where the words are refused
+pub record Reads (ws : List Word) (io : Inputs) : Type 0 where
+  pub bytes : List ℕ
+  pub taken : Consumes io.before io.after bytes
+  pub within : length bytes ≤ 65537
+  pub later : io.faults_before ≤ io.faults_after
+  pub unread : (k : ℕ) → IsPlace IsCommand ws k → (io.after ≡ io.before) × (io.faults_after ≡ io.faults_before)
 
 pub record Answers (ws : List Word) (io : Inputs) (out : Outputs) (result : Status) : Type 0 where
   pub status : Status
   pub text : List ℕ
   pub deserved : Deserves ws io status text
+  pub reads : Reads ws io
   pub told : Told out text status result

@@ -1,10 +1,10 @@
 -- What a run must answer, where nothing fails.
 --
 -- Completes ws io out result == where the source tells its bytes and no count of faults rises:
---   accepted: a command and a file that is taken give Done, or Wide with its cause, or want of memory
+--   accepted: a command and an accepted file of one triangle give Done, or Wide with its cause, or want of memory
 --   refused:  a command and a file that is refused give File, or want of memory
 --   words:    words that are no command give Words, or want of memory, whatever the source holds
-use Rattle.std.specs.Prelude.{◌≡◌, ◌⊎◌, ℕ, ℤ, List, Some}
+use Rattle.std.specs.Prelude.{◌≡◌, ◌⊎◌, ℕ, ℤ, List, Some, length}
 use Rattle.tv_spec_plane.specs.Web.{Web}
 use Rattle.tv_spec_text.specs.Lines.{Word}
 use Rattle.tv_spec_text.specs.Places.{IsPlace}
@@ -23,6 +23,6 @@ pub record NothingFails (io : Inputs) (out : Outputs) : Type 0 where
   pub writes : Rose out.faults_before out.faults_after → ⊥
 
 pub record Completes (ws : List Word) (io : Inputs) (out : Outputs) (result : Status) : Type 0 where
-  pub accepted : (upto : ℤ) (bytes : List ℕ) (w : Web) → IsSeries ws upto → io.before ≡ Some bytes → IsAccepted bytes w → NothingFails io out → (result ≡ Done) ⊎ (((result ≡ Wide) × IsWide w upto) ⊎ (result ≡ Memory))
+  pub accepted : (upto : ℤ) (bytes : List ℕ) (w : Web) → IsSeries ws upto → io.before ≡ Some bytes → IsAccepted bytes w → length w.triangles ≡ 1 → NothingFails io out → (result ≡ Done) ⊎ (((result ≡ Wide) × IsWide w upto) ⊎ (result ≡ Memory))
   pub refused : (bytes : List ℕ) (r : Rejection) → IsCommand ws → io.before ≡ Some bytes → IsRejected bytes r → NothingFails io out → (result ≡ File) ⊎ (result ≡ Memory)
   pub words : (k : ℕ) → IsPlace IsCommand ws k → (Rose out.faults_before out.faults_after → ⊥) → (result ≡ Words) ⊎ (result ≡ Memory)

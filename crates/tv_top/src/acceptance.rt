@@ -1,53 +1,41 @@
 //! Bytes as a file that the program takes. What is computed from the file is not looked at here.
 
 ghost use Rattle.std.specs.Prelude.{◌≡◌, MatchResult};
-ghost use Rattle.tv_spec_boxes.specs.OneCorner.{IsOneCorner};
-ghost use Rattle.tv_top.specs.Acceptance.{is_json, IsAccepted};
+ghost use Rattle.tv_top.specs.Acceptance.{is_json, HasMesh, IsAccepted, IsSound, IsUnsound};
 ghost use Rattle.tv_top.specs.Rejections.{IsRefused};
 
-use crate::corner::is_one_corner;
 use std::alloc::Global;
-use thiserror::Error;
 use tv_lattice::fault::{FileFault, InputError};
 use tv_lattice::file::FileData;
 use tv_text::file::read_file;
+use tv_triangulation::triangulate::triangulate;
 
 /// Why a file is refused.
 #[derive(Clone, Copy, Debug, PartialEq, Eq)]
 pub enum Rejection {
-    /// A check of the text or its limits fails.
+    /// A check fails.
     Fault(FileFault),
-    /// The file isn't one corner.
+    /// The file has not exactly one triangle.
     NotOneCorner,
-}
-
-/// Why there is no file: it is refused, or memory was wanting.
-#[derive(Debug, Drop, PartialEq, Eq, Error)]
-pub enum AcceptError {
-    #[error("the file is refused")]
-    Refused(Rejection),
-    #[error("out of memory")]
-    Memory,
 }
 
 /// The greatest number of bytes of a file.
 pub const MAX_BYTES: usize = 65_536;
 
-/// The file that the bytes spell, where it is one corner. The checks come in the order: too long, JSON, the grammar,
-/// the limits, one corner.
-pub fn accept(alloc: Global, bytes: &[u8]) -> Result<FileData, AcceptError>
-    ensures { MatchResult result (λ w. IsAccepted bytes.now w) (λ e. IsRefused bytes.now e) }
+/// The file that the bytes spell, where it is a triangulation with a height for each point. The checks come in the
+/// order: too long, JSON, the grammar, the limits, the points and triangles, the number of heights.
+pub fn accept(alloc: Global, bytes: &[u8]) -> Result<FileData, InputError>
+    ensures { MatchResult result (λ w. IsAccepted bytes.now w × IsSound w) (IsRefused bytes.now) }
 {
     if bytes.len() > MAX_BYTES {
-        return Err(AcceptError::Refused(Rejection::Fault(FileFault::TooLong)));
+        return Err(InputError::Fault(FileFault::TooLong));
     }
     if is_json(bytes) {
-        return Err(AcceptError::Refused(Rejection::Fault(FileFault::Json)));
+        return Err(InputError::Fault(FileFault::Json));
     }
     match read_file(alloc, bytes) {
-        Ok(file) => one_corner(file),
-        Err(InputError::Fault(fault)) => Err(AcceptError::Refused(Rejection::Fault(fault))),
-        Err(InputError::Memory) => Err(AcceptError::Memory),
+        Ok(file) => sound(alloc, file),
+        Err(error) => Err(error),
     }
 }
 
@@ -63,12 +51,21 @@ fn is_json(bytes: &[u8]) -> bool
     }
 }
 
-fn one_corner(file: FileData) -> Result<FileData, AcceptError>
-    ensures { MatchResult result (λ w. (w ≡ file) × IsOneCorner file) (λ e. (e ≡ AcceptError.Refused Rejection.NotOneCorner) × (IsOneCorner file → ⊥)) }
+fn sound(alloc: Global, file: FileData) -> Result<FileData, InputError>
+    ensures { MatchResult result (λ w. (w ≡ file) × IsSound file) (IsUnsound file) }
 {
-    if is_one_corner(&file) {
-        Ok(file)
-    } else {
-        Err(AcceptError::Refused(Rejection::NotOneCorner))
+    match triangulate(alloc, &file.points, &file.triangles) {
+        Ok(_) => with_heights(file),
+        Err(error) => Err(error),
     }
+}
+
+fn with_heights(file: FileData) -> Result<FileData, InputError>
+    requires { HasMesh file }
+    ensures { MatchResult result (λ w. (w ≡ file) × IsSound file) (IsUnsound file) }
+{
+    if file.heights.len() != file.points.len() {
+        return Err(InputError::Fault(FileFault::HeightCount(file.heights.len() as u64)));
+    }
+    Ok(file)
 }

@@ -4,7 +4,6 @@
 
 mod acceptance;
 mod command;
-mod corner;
 mod reply;
 mod report;
 mod running;
@@ -14,7 +13,7 @@ mod terms;
 #[cfg(test)]
 mod tests;
 
-pub use acceptance::{AcceptError, MAX_BYTES, Rejection, accept};
+pub use acceptance::{MAX_BYTES, Rejection, accept};
 pub use command::{Command, WordsError, parse_words};
 pub use running::run;
 pub use status::Status;

@@ -6,14 +6,16 @@ ghost use Rattle.tv_top.specs.Commands.{IsOrder, IsSeries};
 ghost use Rattle.tv_top.specs.RejectionLines.{rejection_line};
 ghost use Rattle.tv_top.specs.Answers.{wide_crowd_line};
 ghost use Rattle.tv_spec_boxes.specs.OneCorner.{IsOneCorner};
-ghost use Rattle.tv_top.specs.Replies.{IsReported, IsJudged, Replies, Says};
+ghost use Rattle.tv_top.specs.Acceptance.{IsSound};
+ghost use Rattle.tv_top.specs.Answers.{Reads};
+ghost use Rattle.tv_top.specs.Replies.{IsReported, IsCarriedOut, IsJudged, Replies, Says};
 
-use crate::acceptance::{AcceptError, MAX_BYTES, Rejection, accept};
+use crate::acceptance::{MAX_BYTES, Rejection, accept};
 use crate::command::{Command, WordsError, parse_words};
 use crate::report::corner_report;
 use crate::status::Status;
 use std::alloc::{AllocError, Global};
-use tv_lattice::fault::FileFault;
+use tv_lattice::fault::{FileFault, InputError};
 use tv_lattice::file::FileData;
 use tv_outside::{ReadEnd, Source, read_all};
 use tv_plain::fault::CountFault;
@@ -39,7 +41,8 @@ pub(crate) fn reply<S: Source>(
     words: &[String],
     source: &mut S,
 ) -> Result<Answer, Failure>
-    ensures { Replies (map string_bytes words.now) (record { before = S.left source.old; after = S.left source.new; faults_before = S.faults source.old; faults_after = S.faults source.new }) result }
+    ensures deserved { Replies (map string_bytes words.now) (record { before = S.left source.old; after = S.left source.new; faults_before = S.faults source.old; faults_after = S.faults source.new }) result }
+    ensures reads { Reads (map string_bytes words.now) (record { before = S.left source.old; after = S.left source.new; faults_before = S.faults source.old; faults_after = S.faults source.new }) }
 {
     match parse_words(words) {
         Ok(Command::Series { upto, .. }) => series(alloc, upto, source),
@@ -49,7 +52,8 @@ pub(crate) fn reply<S: Source>(
 
 fn series<S: Source>(alloc: Global, upto: i64, source: &mut S) -> Result<Answer, Failure>
     requires { IsOrder upto }
-    ensures { (ws : List (List ℕ)) → IsSeries ws upto → Replies ws (record { before = S.left source.old; after = S.left source.new; faults_before = S.faults source.old; faults_after = S.faults source.new }) result }
+    ensures deserved { (ws : List (List ℕ)) → IsSeries ws upto → Replies ws (record { before = S.left source.old; after = S.left source.new; faults_before = S.faults source.old; faults_after = S.faults source.new }) result }
+    ensures reads { (ws : List (List ℕ)) → IsSeries ws upto → Reads ws (record { before = S.left source.old; after = S.left source.new; faults_before = S.faults source.old; faults_after = S.faults source.new }) }
 {
     match read_all(alloc, source, MAX_BYTES) {
         Ok(bytes) => judge(alloc, &bytes, upto),
@@ -64,9 +68,21 @@ fn judge(alloc: Global, bytes: &[u8], upto: i64) -> Result<Answer, Failure>
     ensures { IsJudged bytes.now upto result }
 {
     match accept(alloc, bytes) {
-        Ok(file) => report(alloc, &file, upto),
-        Err(AcceptError::Refused(rejection)) => reject(alloc, rejection),
-        Err(AcceptError::Memory) => Err(Failure::Memory),
+        Ok(file) => carry_out(alloc, &file, upto),
+        Err(InputError::Fault(fault)) => reject(alloc, Rejection::Fault(fault)),
+        Err(InputError::Memory) => Err(Failure::Memory),
+    }
+}
+
+fn carry_out(alloc: Global, file: &FileData, upto: i64) -> Result<Answer, Failure>
+    requires sound { IsSound file.now }
+    requires order { upto ≤ℤ pos 64 }
+    ensures { IsCarriedOut file.now upto result }
+{
+    if file.triangles.len() == 1 {
+        report(alloc, file, upto)
+    } else {
+        reject(alloc, Rejection::NotOneCorner)
     }
 }
 

@@ -2,9 +2,8 @@
 
 ghost use Rattle.std.specs.Prelude.{◌≡◌, ◌++◌, ◌<◌, ◌≤◌, ◌^◌, ℕ, pos, ◌≤ℤ◌, IfOk, IfErr, OnOk, IsErrOf};
 ghost use Rattle.tv_cells.specs.Extras.{count};
-ghost use Rattle.tv_spec_text.specs.Reports.{AreTerms};
-ghost use Rattle.tv_spec_boxes.specs.OneCorner.{empty_legs, with_sign, corner_coefficient};
-ghost use Rattle.tv_top.specs.CornerTerms.{terms_of};
+ghost use Rattle.tv_spec_boxes.specs.OneCorner.{empty_legs, with_sign};
+ghost use Rattle.tv_top.specs.CornerTerms.{AreCornerTerms, terms_of};
 
 use std::alloc::Global;
 use tv_cells::legs::Legs;
@@ -16,7 +15,7 @@ use tv_text::series::Term;
 /// The terms of the corner's series through the exponent `upto`, in rising order.
 pub(crate) fn corner_terms(alloc: Global, upto: i64) -> Result<Vec<Term>, CountFault>
     requires { upto ≤ℤ pos 64 }
-    ensures terms { IfOk result (λ v. AreTerms corner_coefficient upto v.items) }
+    ensures terms { IfOk result (λ v. AreCornerTerms upto v.items) }
     ensures wide { IsErrOf result CountFault.Wide → (i : ℕ) × (pos i ≤ℤ upto) × (2 ^ 127 ≤ count empty_legs i) }
 {
     let mut terms = Vec::new(alloc);

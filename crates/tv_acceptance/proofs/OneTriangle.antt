@@ -1,14 +1,13 @@
 -- One triangle whose edges match the hull has no listed point beside its own three.
-use Rattle.std.proofs.Common.{◌≡◌, ◌≢◌, ℕ, zero, suc, ◌<◌, ◌≤◌, ℤ, pos, negsuc, ◌+ℤ◌, ◌≤ℤ◌, List, [], ◌∷◌, length, Bool, true, false, ◌||◌, nat_eq, IsTrue, ◌⊎◌, inl, inr, refl, ap, sym, ◌∙◌, arith, subst}
+use Rattle.std.proofs.Common.{◌≡◌, ◌≢◌, ℕ, zero, suc, ◌<◌, ◌≤◌, ℤ, pos, negsuc, ◌+ℤ◌, ◌≤ℤ◌, List, [], ◌∷◌, length, ◌||◌, nat_eq, IsTrue, ◌⊎◌, inl, inr, refl, ap, sym, ◌∙◌, arith}
 use Rattle.std.proofs.lemmas.Int.{ints}
-use Rattle.std.proofs.lemmas.Bool.{eq-eqb}
 use Rattle.std.proofs.lemmas.Bool.Decides.{nat_tests}
 use Rattle.tv_spec_plane.specs.declared.records.Triple.{Triple}
 use Rattle.tv_spec_plane.specs.Plane.{Point, at, turn, Segment}
 use Rattle.tv_spec_plane.specs.Web.{has}
 use Rattle.tv_spec_hull.specs.Members.{Among}
 use Rattle.tv_spec_hull.specs.Hull.{IsHull}
-use Rattle.tv_spec_hull.specs.Edges.{sides, edges, back, IsTurned, IsMatched}
+use Rattle.tv_spec_hull.specs.Edges.{sides, IsTurned, IsMatched}
 use Rattle.tv_tiling.specs.Points.{AreDistinct}
 use Rattle.tv_tiling.proofs.Turns.{turn-rotate, turn-sum, turn-apart}
 use Rattle.tv_tiling_converse.proofs.Corners.{corner-same}
@@ -84,16 +83,18 @@ module _ (ps : List Point) (t : Triple) (hull : List Segment) (turned : IsTurned
 
   corner : (k : ℕ) → k < length ps → (at ps k ≡ at ps t.a) ⊎ ((at ps k ≡ at ps t.b) ⊎ (at ps k ≡ at ps t.c))
   corner k l = elim (two_noughts _ _ _ (weakly_left t.a t.b (inl refl) k l) (weakly_left t.b t.c (inr (inl refl)) k l) (weakly_left t.c t.a (inr (inr (inl refl))) k l) (turn-sum (at ps t.a) (at ps t.b) (at ps t.c) (at ps k) ∙ turned.turned)) [
-    inl e ↦ inr (inr (corner-same (at ps t.c) (at ps t.a) (at ps t.b) (at ps k) turned_ca e.1 e.0))
+    | inl e ↦ inr (inr (corner-same (at ps t.c) (at ps t.a) (at ps t.b) (at ps k) turned_ca e.1 e.0))
     | inr (inl e) ↦ inl (corner-same (at ps t.a) (at ps t.b) (at ps t.c) (at ps k) turned.turned e.0 e.1)
-    | inr (inr e) ↦ inr (inl (corner-same (at ps t.b) (at ps t.c) (at ps t.a) (at ps k) turned_bc e.1 e.0)) ]
+    | inr (inr e) ↦ inr (inl (corner-same (at ps t.b) (at ps t.c) (at ps t.a) (at ps k) turned_bc e.1 e.0))
+  ]
 
   member : AreDistinct ps → (k : ℕ) → k < length ps → IsOneOf k t
   unfolding IsOneOf
   member d k l = elim (corner k l) [
-    inl e ↦ inl (d t.a k turned.listed.a l (sym e))
+    | inl e ↦ inl (d t.a k turned.listed.a l (sym e))
     | inr (inl e) ↦ inr (inl (d t.b k turned.listed.b l (sym e)))
-    | inr (inr e) ↦ inr (inr (d t.c k turned.listed.c l (sym e))) ]
+    | inr (inr e) ↦ inr (inr (d t.c k turned.listed.c l (sym e)))
+  ]
 
   at_least_three : 3 ≤ length ps
   at_least_three = three_below t.a t.b t.c (length ps) turned.listed.a turned.listed.b turned.listed.c a_not_b b_not_c c_not_a
@@ -105,5 +106,5 @@ module _ (ps : List Point) (t : Triple) (hull : List Segment) (turned : IsTurned
   pub one_triangle : AreDistinct ps → (length ps ≡ 3) × NamesAll t
   unfolding IsOneOf
   one_triangle d = let three = at_least_three in
-    let no_fourth : 3 < length ps → ⊥ = λ l. pigeon t.a t.b t.c (member d 0 (omega arith)) (member d 1 (omega arith)) (member d 2 (omega arith)) (member d 3 l) in
-    (omega arith, record { first = named d 0 (omega arith); second = named d 1 (omega arith); third = named d 2 (omega arith) })
+      let no_fourth : 3 < length ps → ⊥ = λ l. pigeon t.a t.b t.c (member d 0 (omega arith)) (member d 1 (omega arith)) (member d 2 (omega arith)) (member d 3 l) in
+      (omega arith, record { first = named d 0 (omega arith); second = named d 1 (omega arith); third = named d 2 (omega arith) })

@@ -1,0 +1,2 @@
+pub mod Triangulated
+pub mod Laws
