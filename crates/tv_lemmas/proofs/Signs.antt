@@ -10,6 +10,21 @@ sign (pos zero) = inr (inl refl)
 sign (pos (suc n)) = inr (inr (omega (arith, ints)))
 sign (negsuc n) = inl (omega (arith, ints))
 
+pub nonneg-positive : (z : ℤ) → pos 0 ≤ℤ z → z ≢ pos 0 → pos 0 <ℤ z
+nonneg-positive z h apart = elim (sign z) [
+  | inl less ↦ absurd (omega (arith, ints))
+  | inr (inl same) ↦ absurd (apart same)
+  | inr (inr more) ↦ more
+]
+
+-- of two integers that are not the same one is less
+pub same-by_order : (s t : ℤ) → (s <ℤ t → ⊥) → (t <ℤ s → ⊥) → s ≡ t
+same-by_order s t f g = elim (sign (t -ℤ s)) [
+  | inl less ↦ absurd (g (omega (arith, ints)))
+  | inr (inl same) ↦ omega (arith, ints)
+  | inr (inr more) ↦ absurd (f (omega (arith, ints)))
+]
+
 pub mul-pos-pos : (a b : ℤ) → pos 0 <ℤ a → pos 0 <ℤ b → pos 0 <ℤ (a *ℤ b)
 mul-pos-pos (pos zero) b h k = absurd (omega (arith, ints))
 mul-pos-pos (pos (suc m)) (pos zero) h k = absurd (omega (arith, ints))

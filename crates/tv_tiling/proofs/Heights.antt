@@ -8,7 +8,7 @@ use Rattle.std.proofs.lemmas.Int.{ints}
 use Rattle.tv_spec_plane.specs.Plane.{Point, at, turn}
 use Rattle.tv_spec_plane.specs.Tiling.{Rational, side}
 use Rattle.tv_spec_hull.specs.Hull.{IsLess}
-use Rattle.tv_tiling.specs.Small.{IsSmall, AreSmall}
+use Rattle.tv_tiling.specs.Points.{IsSmall, AreSmall}
 use Rattle.tv_lemmas.proofs.Integers.{mul-sub, mul-swap, diff, diff_of, diff-same, diffs, diff-pos}
 use Rattle.tv_lemmas.proofs.Signs.{sign, mul-pos-pos, mul-positive, mul-pos-neg, mul-negative, factor-zero}
 use Rattle.tv_tiling.proofs.Lists.{all-everywhere}
@@ -47,6 +47,10 @@ by_less p q s t e f hp hq h = elim (sign (q.x -ℤ p.x)) [
 
 pub height-less : (p q : Point) → IsSmall p → IsSmall q → height p <ℤ height q → IsLess p q
 height-less p q hp hq h = by_less p q (height p) (height q) (height-is p) (height-is q) hp hq h
+
+pub not-less : (p q : Point) → (p.x <ℤ q.x → ⊥) → (p.x ≡ q.x → p.y <ℤ q.y → ⊥) → IsLess p q → ⊥
+not-less p q f g (inl h) = f h
+not-less p q f g (inr h) = g h.0 h.1
 
 -- three points of one height are on a line
 pub height-flat : (a b c : Point) → turn a b c ≢ pos 0 → height b ≡ height a → height c ≡ height a → ⊥

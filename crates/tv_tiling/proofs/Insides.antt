@@ -1,14 +1,14 @@
 -- The test that a rational point is inside a turned triangle.
 --
 -- inside ps p t == p is strictly left of the three sides of t
-use Rattle.std.specs.Prelude.{◌≡◌, ◌≢◌, Bool, true, false, ◌&&◌, ℤ, pos, ◌+ℤ◌, ◌*ℤ◌, neg_ℤ, ◌≤ℤ◌, ◌<ℤ◌, List}
+use Rattle.std.specs.Prelude.{◌≡◌, Bool, true, false, ◌&&◌, ℤ, pos, ◌+ℤ◌, ◌*ℤ◌, neg_ℤ, ◌≤ℤ◌, ◌<ℤ◌, List}
 use Rattle.std.proofs.Common.{refl, ap, ◌∙◌, arith, inl, inr}
 use Rattle.std.proofs.lemmas.Int.{ints}
 use Rattle.tv_spec_plane.specs.declared.records.Triple.{Triple}
 use Rattle.tv_spec_plane.specs.Plane.{Point, at, turn}
 use Rattle.tv_spec_plane.specs.Tiling.{Rational, side, IsGeneric, IsInHull, IsLeft, IsInTriangle}
 use Rattle.tv_spec_hull.specs.Edges.{IsTurned}
-use Rattle.tv_lemmas.proofs.Signs.{sign, mul-nonneg-nonneg, positive, positive-true, true-positive}
+use Rattle.tv_lemmas.proofs.Signs.{nonneg-positive, mul-nonneg-nonneg, positive, positive-true, true-positive}
 use Rattle.tv_tiling.proofs.Turns.{side-sum, side-spread, turn-exchange}
 
 unfoldable pub inside : List Point → Rational → Triple → Bool
@@ -48,14 +48,6 @@ triangle-left ps p t h (inl m) = m
 triangle-left ps p t h (inr m) = absurd (no_sum (side (at ps t.a) (at ps t.c) p) (side (at ps t.c) (at ps t.b) p) (side (at ps t.b) (at ps t.a) p) (turn (at ps t.a) (at ps t.b) (at ps t.c)) (pos p.k)
     (side-sum (at ps t.a) (at ps t.c) (at ps t.b) p ∙ ap (λ d. pos p.k *ℤ d) (turn-exchange (at ps t.a) (at ps t.b) (at ps t.c))) h.turned (omega (arith, ints)) m.ab m.bc m.ca)
 
--- a generic point that is not strictly right of a line is strictly left of it
-pub not-right : (z : ℤ) → z ≢ pos 0 → pos 0 ≤ℤ z → pos 0 <ℤ z
-not-right z apart h = elim (sign z) [
-  | inl less ↦ absurd (omega (arith, ints))
-  | inr (inl same) ↦ absurd (apart same)
-  | inr (inr more) ↦ more
-]
-
 weak : (z : ℤ) → pos 0 <ℤ z → pos 0 ≤ℤ z
 weak z h = omega (arith, ints)
 
@@ -63,10 +55,11 @@ three-nonneg : (s x y z : ℤ) → s ≡ x +ℤ (y +ℤ z) → pos 0 ≤ℤ x �
 three-nonneg s x y z e hx hy hz = omega (arith, ints)
 
 -- the corners are on the left of each hull pair or on its line, and so is what is inside
-pub left-hull : (ps : List Point) (p : Rational) (t : Triple) → IsTurned ps t → IsGeneric ps p → IsLeft (at ps t.a) (at ps t.b) (at ps t.c) p → IsInHull ps p
-left-hull ps p t h generic left e f pair =
-    not-right (side (at ps e) (at ps f) p) (generic.off_lines e f pair.first_listed pair.second_listed pair.apart)
+pub left-in_hull : (ps : List Point) (p : Rational) (t : Triple) → IsTurned ps t → IsGeneric ps p → IsLeft (at ps t.a) (at ps t.b) (at ps t.c) p → IsInHull ps p
+left-in_hull ps p t h generic left e f pair =
+    nonneg-positive (side (at ps e) (at ps f) p)
     (three-nonneg _ _ _ _ (side-spread (at ps t.a) (at ps t.b) (at ps t.c) (at ps e) (at ps f) p h.turned)
     (mul-nonneg-nonneg _ _ (weak _ left.bc) (pair.left t.a h.listed.a))
     (mul-nonneg-nonneg _ _ (weak _ left.ca) (pair.left t.b h.listed.b))
     (mul-nonneg-nonneg _ _ (weak _ left.ab) (pair.left t.c h.listed.c)))
+    (generic.off_lines e f pair.first_listed pair.second_listed pair.apart)

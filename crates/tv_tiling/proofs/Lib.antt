@@ -7,8 +7,6 @@ pub mod Runs
 pub mod Sides
 pub mod Insides
 pub mod Matched
-pub mod Spots
-pub mod Corners
-pub mod Between
-pub mod Tiled
 pub mod Exchanges
+mod Examples
+mod Counterexamples

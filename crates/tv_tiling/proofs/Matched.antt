@@ -8,9 +8,9 @@ use Rattle.tv_spec_plane.specs.Tiling.{Rational, side, IsGeneric, IsInHull, tria
 use Rattle.tv_spec_hull.specs.Members.{Among}
 use Rattle.tv_spec_hull.specs.Hull.{IsHull, IsRound, IsLess}
 use Rattle.tv_spec_hull.specs.Edges.{sides, edges, back, IsTurned, AreTurned}
-use Rattle.tv_lemmas.proofs.Signs.{sign, positive, positive-true, positive-false, true-positive}
+use Rattle.tv_lemmas.proofs.Signs.{same-by_order, sign, positive, positive-true, positive-false, true-positive}
 use Rattle.tv_lemmas.proofs.Sums.{sum_of, sum_of-append, sum_of-flat_map, sum_of-all, bit, bits-one}
-use Rattle.tv_tiling.specs.Small.{AreSmall}
+use Rattle.tv_tiling.specs.Points.{AreSmall, IsSpread}
 use Rattle.tv_tiling.specs.Laws.{MatchedTrianglesTile}
 use Rattle.tv_tiling.proofs.Cancels.{append-among_left, append-among_right, sum_of-cancels}
 use Rattle.tv_tiling.proofs.Turns.{side-back}
@@ -18,7 +18,7 @@ use Rattle.tv_tiling.proofs.Crossings.{number, number-back, number-climbs, numbe
 use Rattle.tv_tiling.proofs.Heights.{at-small, height, height-less, height-flat, lift, lift-less, lift-least, lift-greatest, lift-weighted}
 use Rattle.tv_tiling.proofs.Runs.{Climbs, Descends, climb-run, descent-run, run-first, run-last, run-telescopes}
 use Rattle.tv_tiling.proofs.Sides.{turned-at, IsThird, third-apart, side-third, hull-outer, hull-pair}
-use Rattle.tv_tiling.proofs.Insides.{inside, inside-left, left-inside, triangle-left, left-hull}
+use Rattle.tv_tiling.proofs.Insides.{inside, inside-left, left-inside, triangle-left, left-in_hull}
 
 abbrev over : List Point → Rational → ℕ → Bool
 over ps p i = positive (lift p (at ps i))
@@ -80,23 +80,15 @@ over-rises ps p i j positive_k less e =
     let up = true-positive (lift p (at ps i)) e in
     positive-true (lift p (at ps j)) (omega (arith, ints))
 
-level_at : (s t : ℤ) → (s <ℤ t → ⊥) → (t <ℤ s → ⊥) → s ≡ t
-level_at s t f g = elim (sign (t -ℤ s)) [
-  | inl less ↦ absurd (g (omega (arith, ints)))
-  | inr (inl same) ↦ omega (arith, ints)
-  | inr (inr more) ↦ absurd (f (omega (arith, ints)))
-]
-
--- the ends of the climb are apart, since some triangle is not flat
-ends-apart : (ps : List Point) (hull : List Segment) (ts : List Triple) → AreSmall ps → 0 < length ts → (r : IsRound ps hull) → AreTurned ps ts → r.least ≡ r.greatest → ⊥
-ends-apart ps hull ts small some r turned same =
-    let t = turned-at ps ts turned 0 some in
-    let level : (k : ℕ) → k < length ps → height (at ps k) ≡ height (at ps r.least) = λ k h. level_at (height (at ps k)) (height (at ps r.least))
+-- the ends of the climb are apart, since the points are not all on one level
+ends-apart : (ps : List Point) (hull : List Segment) → AreSmall ps → IsSpread ps → (r : IsRound ps hull) → r.least ≡ r.greatest → ⊥
+ends-apart ps hull small spread r same =
+    let level : (k : ℕ) → k < length ps → height (at ps k) ≡ height (at ps r.least) = λ k h. same-by_order (height (at ps k)) (height (at ps r.least))
     (λ less. r.first.least k h (height-less _ _ (at-small ps small k) (at-small ps small r.least) less))
     (λ less. r.last.greatest k h (subst (λ (i : ℕ). IsLess (at ps i) (at ps k)) same (height-less _ _ (at-small ps small r.least) (at-small ps small k) less))) in
-    height-flat (at ps (triangle_at ts 0).a) (at ps (triangle_at ts 0).b) (at ps (triangle_at ts 0).c) (λ e. omega (arith, ints, t.turned))
-    (level _ t.listed.b ∙ sym (level _ t.listed.a))
-    (level _ t.listed.c ∙ sym (level _ t.listed.a))
+    height-flat (at ps spread.a) (at ps spread.b) (at ps spread.c) spread.turned
+    (level _ spread.b_listed ∙ sym (level _ spread.a_listed))
+    (level _ spread.c_listed ∙ sym (level _ spread.a_listed))
 
 module _ (ps : List Point) (hull : List Segment) (p : Rational) (small : AreSmall ps) (is_hull : IsHull ps hull) (generic : IsGeneric ps p) (within : IsInHull ps p) where
   up-hull : (s : Segment) → Among s is_hull.round.up → Among s hull
@@ -143,10 +135,10 @@ module _ (ps : List Point) (hull : List Segment) (p : Rational) (small : AreSmal
 
 -- ---- the theorem
 pub matched_triangles_tile : MatchedTrianglesTile
-matched_triangles_tile ps ts hull small some is_hull turned matched = record {
+matched_triangles_tile ps ts hull small spread is_hull turned matched = record {
   covered = λ p generic within.
       let cancel : sum_of (cross ps p) (edges ts) ≡ sum_of (cross ps p) hull = sum_of-cancels back (λ s. refl) (cross ps p) (cross-back ps p) (edges ts) hull matched.once is_hull.once matched.matched matched.covered (λ s m. hull-outer ps ts s turned (is_hull.each s.0 s.1 m)) in
-      let one : sum_of (λ t. bit (inside ps p t)) ts ≡ pos 1 = sym (edges-cross ps p generic ts turned) ∙ (cancel ∙ hull-cross ps hull p small is_hull generic within (ends-apart ps hull ts small some is_hull.round turned)) in
+      let one : sum_of (λ t. bit (inside ps p t)) ts ≡ pos 1 = sym (edges-cross ps p generic ts turned) ∙ (cancel ∙ hull-cross ps hull p small is_hull generic within (ends-apart ps hull small spread is_hull.round)) in
       let place = bits-one (inside ps p) (record { a = 0; b = 0; c = 0 }) ts one in (
         place.0,
         record {
@@ -157,5 +149,5 @@ matched_triangles_tile ps ts hull small some is_hull turned matched = record {
       );
   within = λ p generic i h m.
       let t = turned-at ps ts turned i h in
-      left-hull ps p (triangle_at ts i) t generic (triangle-left ps p (triangle_at ts i) t m);
+      left-in_hull ps p (triangle_at ts i) t generic (triangle-left ps p (triangle_at ts i) t m);
 }

@@ -6,7 +6,7 @@ use Rattle.tv_spec_plane.specs.Plane.{Point, at, Segment}
 use Rattle.tv_spec_hull.specs.Members.{Among}
 use Rattle.tv_spec_hull.specs.Hull.{IsClimb, IsDescent}
 use Rattle.tv_lemmas.proofs.Sums.{sum_of}
-use Rattle.tv_tiling.specs.Small.{AreSmall}
+use Rattle.tv_tiling.specs.Points.{AreSmall}
 use Rattle.tv_tiling.proofs.Heights.{at-small, height, less-height}
 
 abbrev pub IsRun : (Segment → Type 0) → ℕ → List Segment → ℕ → Type 0

@@ -7,11 +7,18 @@ use Rattle.tv_spec_plane.specs.Plane.{Point, at, turn, Segment, IsHullSegment}
 use Rattle.tv_spec_plane.specs.Tiling.{Rational, side, triangle_at, IsHullPair, IsLeft}
 use Rattle.tv_spec_hull.specs.Members.{Among, Once}
 use Rattle.tv_spec_hull.specs.Edges.{sides, edges, back, IsTurned, AreTurned}
+use Rattle.tv_tiling.specs.Points.{IsSpread}
 use Rattle.tv_tiling.proofs.Lists.{all-at, flat_map-among}
-use Rattle.tv_tiling.proofs.Turns.{turn-rotate, turn-first, turn-back}
+use Rattle.tv_tiling.proofs.Turns.{turn-rotate, turn-apart, turn-back}
 
 pub turned-at : (ps : List Point) (ts : List Triple) → AreTurned ps ts → (i : ℕ) → i < length ts → IsTurned ps (triangle_at ts i)
 turned-at ps ts turned i h = all-at (IsTurned ps) ts _ turned i h
+
+-- with a triangle the points are not all on a line
+pub turned-spread : (ps : List Point) (ts : List Triple) → 0 < length ts → AreTurned ps ts → IsSpread ps
+turned-spread ps ts some turned =
+    let t = turned-at ps ts turned 0 some in
+    record { a = (triangle_at ts 0).a; b = (triangle_at ts 0).b; c = (triangle_at ts 0).c; a_listed = t.listed.a; b_listed = t.listed.b; c_listed = t.listed.c; turned = λ e. omega (arith, ints, t.turned) }
 
 -- point c is a third point of the side s
 pub record IsThird (ps : List Point) (s : Segment) (c : ℕ) : Type 0 where
@@ -21,10 +28,7 @@ pub record IsThird (ps : List Point) (s : Segment) (c : ℕ) : Type 0 where
   pub turned : turn (at ps s.0) (at ps s.1) (at ps c) ≡ pos 1
 
 pub third-apart : (ps : List Point) (s : Segment) (c : ℕ) → IsThird ps s c → at ps s.0 ≢ at ps s.1
-third-apart ps s c h e =
-    let none : turn (at ps s.0) (at ps s.1) (at ps c) ≡ pos 0 = subst (λ (q : Point). turn (at ps s.0) q (at ps c) ≡ pos 0) e (turn-first (at ps s.0) (at ps c)) in
-    let one = h.turned in
-    omega (arith, ints)
+third-apart ps s c h = turn-apart (at ps s.0) (at ps s.1) (at ps c) h.turned
 
 -- the side s of the triangle t with third point c: the inside of t is the inside of the three points from s on
 pub record IsSide (ps : List Point) (t : Triple) (s : Segment) (c : ℕ) : Type 0 where

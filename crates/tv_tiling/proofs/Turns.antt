@@ -167,3 +167,8 @@ turn-second a b = turn-rotate b a b ∙ turn-last b a
 
 pub turn-back : (a b c : Point) → turn b a c ≡ neg_ℤ (turn a b c)
 turn-back a b c = sym (turn-rotate b a c) ∙ turn-exchange a b c
+
+pub turn-apart : (a b c : Point) → turn a b c ≡ pos 1 → a ≢ b
+turn-apart a b c one same =
+    let none : turn a b c ≡ pos 0 = subst (λ (q : Point). turn a q c ≡ pos 0) same (turn-first a c) in
+    omega (arith, ints)

@@ -1,16 +1,11 @@
 //! Laws of matched edges and of tilings: each function does nothing, and its contract is a law.
 
-ghost use Rattle.tv_tiling.specs.Laws.{MatchedTrianglesTile, TilingTrianglesMatch, ExchangedTrianglesTile};
+ghost use Rattle.tv_tiling.specs.Laws.{MatchedTrianglesTile, ExchangedTrianglesTile};
 
 /// Unimodular triangles whose directed edges match, among themselves and with the hull, tile it: each generic rational
 /// point in the hull is in exactly one of them, and no other generic rational point is in any.
 pub fn matched_triangles_tile()
     ensures { MatchedTrianglesTile }
-{}
-
-/// And where they tile the hull of distinct points, their directed edges match.
-pub fn tiling_triangles_match()
-    ensures { TilingTrianglesMatch }
 {}
 
 /// A triangle may be given clockwise: with its last two points exchanged it has the same inside.

@@ -1,4 +1,4 @@
-//! Triangles whose directed edges match tile the convex hull, and triangles that tile it match, as laws. There is no
+//! Triangles whose directed edges match tile the convex hull, as a law. The converse is `tv_tiling_converse`. There is no
 //! program code here.
 #![tactic(auto)]
 

@@ -12,7 +12,7 @@ use Rattle.std.proofs.lemmas.Int.{ints, unsigned_abs-mul}
 use Rattle.std.proofs.Math.Nat.{mul-le-mul}
 use Rattle.tv_spec_plane.specs.Plane.{Point, at, turn}
 use Rattle.tv_spec_plane.specs.Tiling.{Rational, side, IsGeneric, IsLeft}
-use Rattle.tv_tiling.specs.Small.{IsSmall, AreSmall}
+use Rattle.tv_tiling.specs.Points.{IsSmall, AreSmall}
 use Rattle.tv_lemmas.proofs.Integers.{diff_of, diff-same, diffs}
 use Rattle.tv_lemmas.proofs.Signs.{sign}
 use Rattle.tv_tiling.proofs.Heights.{at-small}

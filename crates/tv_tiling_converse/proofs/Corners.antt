@@ -8,10 +8,10 @@ use Rattle.tv_spec_plane.specs.Tiling.{Rational, IsLeft}
 use Rattle.tv_spec_hull.specs.Members.{Among}
 use Rattle.tv_spec_hull.specs.Edges.{sides, IsTurned}
 use Rattle.tv_lemmas.proofs.Signs.{sign}
-use Rattle.tv_tiling.specs.Small.{AreSmall, AreDistinct}
+use Rattle.tv_tiling.specs.Points.{AreSmall, AreDistinct}
 use Rattle.tv_tiling.proofs.Heights.{at-small}
 use Rattle.tv_tiling.proofs.Turns.{turn-rotate, turn-last, turn-second, turn-back, turn-sum, turn-flat}
-use Rattle.tv_tiling.proofs.Spots.{spot, Leads, IsPlace, spot-leads}
+use Rattle.tv_tiling_converse.proofs.Spots.{spot, Leads, IsPlace, spot-leads}
 
 -- a point on the lines of both sides at a corner is the corner
 pub corner-same : (d e f p : Point) → turn d e f ≡ pos 1 → turn d e p ≡ pos 0 → turn f d p ≡ pos 0 → p ≡ d
@@ -117,3 +117,7 @@ corner-facing ps small t a b c e f place h = record {
   out = lead-second _ _ _ (turn-last (at ps a) (at ps e)) (spot-leads (at ps a) (at ps e) (at ps a) b c (at-small ps small a) (at-small ps small e) place h.left.ab);
   home = lead-second _ _ _ (turn-second (at ps f) (at ps a)) (spot-leads (at ps f) (at ps a) (at ps a) b c (at-small ps small f) (at-small ps small a) place h.left.ca);
 }
+
+pub corner-nonneg : (t u : ℤ) → (pos 0 <ℤ t) ⊎ ((t ≡ pos 0) × (pos 0 <ℤ u)) → pos 0 ≤ℤ t
+corner-nonneg t u (inl h) = omega (arith, ints)
+corner-nonneg t u (inr h) = omega (arith, ints, h.0)
