@@ -1,10 +1,10 @@
 -- The earliest segment of a list with a fact, one member further.
 use Rattle.std.specs.Prelude.{◌≡◌, ℕ, ◌+◌, ◌<◌, ◌≤◌, ◌⊎◌, Bool, true, false, cond, List, [], ◌∷◌, ◌++◌, length, take, Option, Some, None, MatchOption}
-use Rattle.std.proofs.Common.{ap, subst, sym, refl, arith, inl, inr, get_or}
+use Rattle.std.proofs.Common.{subst, sym, refl, inl, inr, get_or}
 use Rattle.std.proofs.lemmas.List.{take_more, take_all}
 use Rattle.tv_spec_plane.specs.Plane.{Segment}
 use Rattle.tv_spec_hull.specs.Members.{Among}
-use Rattle.tv_hull.specs.Pairs.{IsFirst, IsFirstPair}
+use Rattle.tv_hull.specs.Pairs.{IsFirstPair}
 use Rattle.tv_triangulation.specs.Segments.{precedes, earlier}
 use Rattle.tv_triangulation.specs.Checks.{NoPair}
 use Rattle.tv_triangulation.proofs.SegmentTests.{IsBefore, precedes-true, precedes-false, before-same, before-through}

@@ -3,3 +3,4 @@ pub mod Sharing
 pub mod Earliest
 pub mod Turning
 pub mod Matching
+pub mod Tilings

@@ -1,7 +1,6 @@
 -- Directed edges that triangles have in common.
 use Rattle.std.specs.Prelude.{◌≡◌, ◌≢◌, ℕ, zero, suc, ◌<◌, ◌≤◌, ◌⊎◌, Bool, true, pos, List, [], ◌∷◌, ◌++◌, length}
-use Rattle.std.specs.List.{AllByRecursion}
-use Rattle.std.proofs.Common.{ap, subst, sym, ◌∙◌, refl, arith, inl, inr}
+use Rattle.std.proofs.Common.{ap, subst, sym, refl, arith, inl, inr}
 use Rattle.std.proofs.lemmas.Int.{ints}
 use Rattle.tv_spec_plane.specs.declared.records.Triple.{Triple}
 use Rattle.tv_spec_plane.specs.Plane.{Point, at, turn, Segment}

@@ -1,10 +1,9 @@
 -- Unimodular triangles are turned counter-clockwise by an exchange of two points.
 use Rattle.std.specs.Prelude.{◌≡◌, ℤ, pos, negsuc, neg_ℤ, Bool, true, false, cond, int_lt, List, [], ◌∷◌, unsigned_abs}
-use Rattle.std.specs.List.{AllByRecursion}
 use Rattle.std.proofs.Common.{refl, ◌∙◌, arith}
 use Rattle.std.proofs.lemmas.Int.{ints}
 use Rattle.tv_spec_plane.specs.declared.records.Triple.{Triple}
-use Rattle.tv_spec_plane.specs.Plane.{Point, at, turn}
+use Rattle.tv_spec_plane.specs.Plane.{Point, at}
 use Rattle.tv_spec_hull.specs.Edges.{IsListed, IsTurned, AreTurned}
 use Rattle.tv_hull.proofs.Rises.{turn-exchange}
 use Rattle.tv_triangulation.specs.Turned.{turn_of, turned_of, turned, IsUnit}

@@ -6,6 +6,7 @@
 -- Fits IsOuter ts      == there is no such fault
 -- IsFirstFault ps ts f == f is the first check that fails, with its first number or pair, in the order of the cases
 -- IsAnswer ps ts e     == e is that fault, or want of memory
+-- IsEarlyAnswer ps ts e == the same, of the checks up to that of points on one line
 -- IsAccepted ps ts m   == m has the points and the turned triangles, and they are triangulated
 use Rattle.std.specs.Prelude.{◌≡◌, ℕ, pos, List, ⊤}
 use Rattle.tv_spec_plane.specs.declared.records.Triple.{Triple}
@@ -46,6 +47,13 @@ IsFirstFault ps ts f = IsSpread ps × AreListed ps ts × AreUnit ps ts × IsMisf
 abbrev pub IsAnswer : List Point → List Triple → InputError → Type 0
 IsAnswer ps ts (Fault f) = IsFirstFault ps ts f
 IsAnswer ps ts Memory = ⊤
+
+abbrev pub IsEarlyAnswer : List Point → List Triple → InputError → Type 0
+IsEarlyAnswer ps ts (Fault (Repeated i j)) = IsFirstPair (IsRepeat ps) i j
+IsEarlyAnswer ps ts (Fault (Index t)) = AreDistinct ps × IsFirstNot (IsListed ps) ts t
+IsEarlyAnswer ps ts (Fault Flat) = AreDistinct ps × AreListed ps ts × IsFlat ps
+IsEarlyAnswer ps ts (Fault f) = ⊥
+IsEarlyAnswer ps ts Memory = ⊤
 
 pub record IsAccepted (ps : List Point) (ts : List Triple) (m : Mesh) : Type 0 where
   pub whole : m ≡ record { points = ps; triangles = turned ps ts }

@@ -3,7 +3,7 @@
 -- same_segment s r == the test of equal segments
 -- precedes s r     == the test that s comes before r or is r, by its first, then its second point
 -- earlier first s  == the earlier of s and the segment before it, if there is one
-use Rattle.std.specs.Prelude.{Bool, ◌&&◌, ◌||◌, cond, nat_eq, nat_lt, nat_le, Option, Some, None}
+use Rattle.std.specs.Prelude.{Bool, ◌&&◌, cond, nat_eq, nat_lt, nat_le, Option, Some, None}
 use Rattle.tv_spec_plane.specs.Plane.{Segment}
 
 abbrev pub same_segment : Segment → Segment → Bool

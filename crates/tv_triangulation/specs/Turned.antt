@@ -5,7 +5,7 @@
 -- turned_of ps t    == the triangle, with its last two points exchanged if it turns clockwise
 -- turned ps ts      == all triangles so turned, in their order
 -- IsUnit ps t       == the doubled area is 1
-use Rattle.std.specs.Prelude.{◌≡◌, ℕ, ℤ, pos, List, map, cond, int_lt, unsigned_abs}
+use Rattle.std.specs.Prelude.{◌≡◌, ℕ, ℤ, pos, List, map, cond, int_lt}
 use Rattle.tv_spec_plane.specs.declared.records.Triple.{Triple}
 use Rattle.tv_spec_plane.specs.Plane.{Point, at, turn, doubled_area}
 

@@ -52,6 +52,7 @@ fn turns_a_clockwise_triangle(rt: HostRuntime) -> Result<(), Fail> {
     let want = [Triple { a: 0, b: 1, c: 2 }, Triple { a: 0, b: 2, c: 3 }];
     assert_eq!(rt; accepted.triangles(), want.as_slice());
     assert_eq!(rt; accepted.points().len(), 4);
+    accepted.known();
     Ok(())
 }
 

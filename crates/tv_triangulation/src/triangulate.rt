@@ -1,9 +1,10 @@
 //! The checks of points and triangles, in order. Limits of counts and numbers are asked of the caller.
 
-ghost use Rattle.std.specs.Prelude.{◌≡◌, ◌≤◌, length, MatchResult};
+ghost use Rattle.std.specs.Prelude.{◌≡◌, ◌≤◌, length, IsOkUnless, MatchResult, OnOk};
+ghost use Rattle.tv_spec_plane.specs.Tiling.{Tiles};
 ghost use Rattle.tv_spec_hull.specs.Hull.{IsHull};
-ghost use Rattle.tv_triangulation.specs.Checks.{AreListed};
-ghost use Rattle.tv_triangulation.specs.Faults.{IsSpread, IsAnswer, IsAccepted};
+ghost use Rattle.tv_triangulation.specs.Checks.{AreListed, AreUnit};
+ghost use Rattle.tv_triangulation.specs.Faults.{IsSpread, IsAnswer, IsEarlyAnswer, IsAccepted};
 
 use crate::area::first_uneven;
 use crate::edges::edges_of;
@@ -12,6 +13,7 @@ use crate::misfit::first_misfit;
 use crate::triangulation::Triangulation;
 use crate::turned::turned;
 use std::alloc::Global;
+use tv_hull::hull::known;
 use tv_hull::{LatticeFault, hull_segments};
 use tv_lattice::fault::{FileFault, InputError};
 use tv_lattice::point::Point;
@@ -19,7 +21,8 @@ use tv_spec_plane::records::Triple;
 
 /// The points with the turned triangles, or the first check that fails: equal points, a point that isn't there, points
 /// on one line, a doubled area that isn't 1, a directed edge of two triangles, an edge that has no back and is no hull
-/// segment, a hull segment that is no edge.
+/// segment, a hull segment that is no edge. So unimodular triangles over distinct points that are not on one line are
+/// accepted exactly where they tile the hull.
 pub fn triangulate(
     alloc: Global,
     points: &[Point],
@@ -27,15 +30,35 @@ pub fn triangulate(
 ) -> Result<Triangulation, InputError>
     requires points { length points.now ≤ 64 }
     requires triangles { length triangles.now ≤ 128 }
+    ensures checks { MatchResult result (IsAccepted points.now triangles.now) (IsAnswer points.now triangles.now) }
+    ensures tiles { OnOk result (Tiles points.now triangles.now) }
+    ensures accepts { IsSpread points.now → AreListed points.now triangles.now → AreUnit points.now triangles.now → Tiles points.now triangles.now → IsOkUnless result InputError.Memory }
+{
+    known(points);
+    let hull = hull_of(alloc, points, triangles)?;
+    fitted(alloc, points, triangles, &hull)
+}
+
+// The same, once the hull is there.
+fn fitted(
+    alloc: Global,
+    points: &[Point],
+    triangles: &[Triple],
+    hull: &[(u32, u32)],
+) -> Result<Triangulation, InputError>
+    requires points { length points.now ≤ 64 }
+    requires triangles { length triangles.now ≤ 128 }
+    requires hull { IsHull points.now hull.now }
+    requires spread { IsSpread points.now }
+    requires listed { AreListed points.now triangles.now }
     ensures { MatchResult result (IsAccepted points.now triangles.now) (IsAnswer points.now triangles.now) }
 {
-    let hull = hull_of(alloc, points, triangles)?;
     if let Some((t, doubled)) = first_uneven(points, triangles) {
         return Err(refused(FileFault::Area(t as u32, doubled)));
     }
     let turned = turned(alloc, points, triangles)?;
     let edges = edges_of(alloc, &turned)?;
-    if let Some(fault) = first_misfit(&turned, &edges, &hull) {
+    if let Some(fault) = first_misfit(&turned, &edges, hull) {
         return Err(refused(fault));
     }
     let points = Vec::from_slice(alloc, points)?;
@@ -50,7 +73,7 @@ fn hull_of(
 ) -> Result<Vec<(u32, u32)>, InputError>
     requires points { length points.now ≤ 64 }
     requires triangles { length triangles.now ≤ 128 }
-    ensures { MatchResult result (λ h. IsHull points.now h.items × IsSpread points.now × AreListed points.now triangles.now) (IsAnswer points.now triangles.now) }
+    ensures { MatchResult result (λ h. IsHull points.now h.items × IsSpread points.now × AreListed points.now triangles.now) (IsEarlyAnswer points.now triangles.now) }
 {
     match hull_segments(alloc, points) {
         Ok(hull) => match first_unlisted(points, triangles) {

@@ -1,9 +1,11 @@
 //! Points and triangles that tile their convex hull. How they are checked is told elsewhere.
 
 ghost use Rattle.std.specs.Prelude.{◌≡◌};
+ghost use Rattle.tv_spec_plane.specs.Tiling.{Tiles};
 ghost use Rattle.tv_triangulation.specs.Mesh.{IsTriangulated};
 
 use std::marker::Model;
+use tv_hull::hull::known;
 use tv_lattice::point::Point;
 use tv_spec_plane::records::Triple;
 
@@ -33,17 +35,23 @@ impl Triangulation {
     }
 
     pub fn points(&self) -> &[Point]
-        ensures points { result.now ≡ self.now.points }
-        ensures known { IsTriangulated self.now }
+        ensures { result.now ≡ self.now.points }
     {
         &self.points
     }
 
     /// In the file's order, a clockwise triangle with its last two points exchanged.
     pub fn triangles(&self) -> &[Triple]
-        ensures triangles { result.now ≡ self.now.triangles }
-        ensures known { IsTriangulated self.now }
+        ensures { result.now ≡ self.now.triangles }
     {
         &self.triangles
+    }
+
+    /// Tells that the triangles match and tile the hull of the points, and does nothing.
+    pub fn known(&self)
+        ensures matched { IsTriangulated self.now }
+        ensures tiles { Tiles self.now.points self.now.triangles }
+    {
+        known(&self.points)
     }
 }

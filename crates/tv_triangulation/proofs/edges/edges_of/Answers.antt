@@ -1,4 +1,4 @@
-use Rattle.std.proofs.Common.{◌≡◌, ◌++◌, ◌∙◌, ap, sym, get_or}
+use Rattle.std.proofs.Common.{sym}
 use Rattle.tv_triangulation.proofs.SegmentTests.{edges-more}
 use Rattle.tv_triangulation.proofs.edges.edges_of.Goals as goal
 

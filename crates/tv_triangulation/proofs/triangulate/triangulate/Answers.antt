@@ -1,16 +1,22 @@
-use Rattle.tv_triangulation.proofs.Matching.{misfit-fault, fits-triangulated}
+use Rattle.std.proofs.lemmas.Result.{MatchResult-weaker, err_from_is_err_and}
+use Rattle.tv_triangulation.proofs.Tilings.{accepted-tiles, tiled-answer, early-answer, early-memory}
 use Rattle.tv_triangulation.proofs.triangulate.triangulate.Goals as goal
 
-pub returns-in-Some-first_misfit : goal.returns-in-Some-first_misfit
-returns-in-Some-first_misfit c =
-    let ps = c.args.points.now in let ts = c.args.triangles.now in let hull = c.in_ok-hull.hull.items in
-    let known = c.in_ok-hull.ensures in
-    let misfit = rw (c.deref-2.ensures.value, c.deref-4.ensures.value, c.in_ok-turned.ensures) at c.in-Some-first_misfit.ensures in
-    rw c.refused-in-Some-first_misfit.ensures (misfit-fault ps hull known.0 ts known.1 known.2 c.in_default.ensures c.in-Some-first_misfit.fault misfit)
+pub returns : goal.returns
+returns c =
+    let ps = c.args.points.now in let ts = c.args.triangles.now in let small = c.known.ensures in
+    record {
+      checks = c.fitted.ensures;
+      tiles = MatchResult-weaker c.fitted.result c.fitted.ensures (λ m accepted. accepted-tiles ps ts m small accepted) (λ e fault. tt);
+      accepts = λ spread listed unit tiles. MatchResult-weaker c.fitted.result c.fitted.ensures (λ m accepted. tt) (tiled-answer ps ts small spread listed unit tiles c.in_ok-hull.hull.items c.in_ok-hull.ensures.0);
+    }
 
-pub new-requires : goal.new-requires
-new-requires c =
-    let ps = c.args.points.now in let ts = c.args.triangles.now in let hull = c.in_ok-hull.hull.items in
-    let known = c.in_ok-hull.ensures in
-    let fits = rw (c.deref-2.ensures.value, c.deref-4.ensures.value, c.in_ok-turned.ensures) at c.in_default-first_misfit.ensures in
-    rw (c.in_ok-points.ensures.items, c.in_ok-turned.ensures) (fits-triangulated ps hull ts known.0 known.1 known.2 c.in_default.ensures fits)
+pub returns-in_err-hull : goal.returns-in_err-hull
+returns-in_err-hull c =
+    let ps = c.args.points.now in let ts = c.args.triangles.now in let e = c.in_err-hull.field-0.0 in
+    let p = err_from_is_err_and c.from_residual.result c.from_residual.ensures.1 in
+    rw (p.1, p.2) (record {
+      checks = early-answer ps ts e c.in_err-hull.ensures;
+      tiles = tt;
+      accepts = λ spread listed unit tiles. early-memory ps ts spread listed e c.in_err-hull.ensures;
+    })

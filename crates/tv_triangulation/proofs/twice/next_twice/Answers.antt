@@ -1,4 +1,4 @@
-use Rattle.std.proofs.Common.{◌≡◌, ℕ, ◌<◌, true, subst, inl, inr, arith}
+use Rattle.std.proofs.Common.{◌≡◌, true, subst, inl, inr, arith}
 use Rattle.tv_hull.proofs.Best.{below_or_last}
 use Rattle.tv_triangulation.specs.Checks.{IsTwice}
 use Rattle.tv_triangulation.proofs.Sharing.{least_of}

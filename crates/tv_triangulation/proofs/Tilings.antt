@@ -1,0 +1,162 @@
+-- What passes the checks tiles the hull of the points, and what tiles it passes them.
+use Rattle.std.specs.Prelude.{◌≡◌, ◌≢◌, ℕ, zero, suc, ◌<◌, ◌≤◌, ◌⊎◌, ◌↔◌, ℤ, pos, Bool, true, false, cond, int_lt, List, [], ◌∷◌, ◌++◌, length}
+use Rattle.std.specs.List.{AllByRecursion}
+use Rattle.std.proofs.Common.{subst, sym, refl, arith, inl, inr}
+use Rattle.std.proofs.lemmas.Int.{ints}
+use Rattle.std.proofs.lemmas.List.{length-map}
+use Rattle.tv_lattice.specs.Limits.{HasCoordinates}
+use Rattle.tv_lattice.specs.declared.fault.FileFault.{FileFault}
+use Rattle.tv_lattice.specs.declared.fault.FileFault.TheVariants.{Repeated, Index, Flat, Area, Twice, Unmatched, Bare}
+use Rattle.tv_lattice.specs.declared.fault.InputError.{InputError}
+use Rattle.tv_lattice.specs.declared.fault.InputError.TheVariants.{Fault, Memory}
+use Rattle.tv_spec_plane.specs.declared.records.Triple.{Triple}
+use Rattle.tv_spec_plane.specs.Plane.{Point, at, turn, Segment, IsHullSegment}
+use Rattle.tv_spec_plane.specs.Tiling.{Tiles, triangle_at}
+use Rattle.tv_spec_hull.specs.Members.{Among, Once}
+use Rattle.tv_spec_hull.specs.Hull.{IsHull}
+use Rattle.tv_spec_hull.specs.Edges.{sides, edges, IsListed, IsMatched}
+use Rattle.tv_lemmas.proofs.Signs.{sign}
+use Rattle.tv_tiling.specs.Points.{AreSmall, IsSpread as IsSpreadOut}
+use Rattle.tv_tiling.specs.Laws.{IsExchange}
+use Rattle.tv_tiling.proofs.Exchanges.{exchanged_triangles_tile}
+use Rattle.tv_tiling.proofs.Matched.{matched_triangles_tile}
+use Rattle.tv_tiling_converse.proofs.Tiled.{tiling_triangles_match}
+use Rattle.tv_hull.specs.Points.{AreDistinct, IsRepeat}
+use Rattle.tv_hull.proofs.Rises.{turn-first, turn-rotate}
+use Rattle.tv_hull.proofs.Collinear.{flat-line}
+use Rattle.tv_triangulation.specs.Mesh.{Mesh, IsTriangulated}
+use Rattle.tv_triangulation.specs.Turned.{turn_of, turned_of, turned, IsUnit}
+use Rattle.tv_triangulation.specs.Checks.{AreListed, AreUnit}
+use Rattle.tv_triangulation.specs.Faults.{IsSpread, IsMisfit, IsFirstFault, IsAnswer, IsEarlyAnswer, IsAccepted}
+use Rattle.tv_triangulation.proofs.Turning.{turned-all}
+
+-- ---- what the laws ask
+small-points : (ps : List Point) → AllByRecursion HasCoordinates ps → AreSmall ps
+small-points [] all = tt
+small-points (p ∷ ps) all = (record { x = all.0.0; y = all.0.1 }, small-points ps all.1)
+
+all_or_some : (f : ℕ → ℤ) (n : ℕ) → ((k : ℕ) → k < n → f k ≡ pos 0) ⊎ ((k : ℕ) × (k < n) × (f k ≢ pos 0))
+all_or_some f zero = inl (λ k h. absurd (omega arith))
+all_or_some f (suc n) = elim (all_or_some f n) [
+  | inr some ↦ inr (some.0, omega (arith, some.1), some.2)
+  | inl all ↦ elim (sign (f n)) [
+    | inl less ↦ inr (n, omega arith, λ e. omega (arith, ints))
+    | inr (inl here) ↦ inl (λ k h. elim (last_or_below k n h) [ inl below ↦ all k below | inr last ↦ subst (λ (m : ℕ). f m ≡ pos 0) (sym last) here ])
+    | inr (inr more) ↦ inr (n, omega arith, λ e. omega (arith, ints))
+  ]
+]
+  where
+    last_or_below : (k n : ℕ) → k < suc n → (k < n) ⊎ (k ≡ n)
+    last_or_below k n h = grind arith
+
+lone-flat : (ps : List Point) (k : ℕ) → length ps ≤ 1 → k < length ps → turn (at ps 0) (at ps 1) (at ps k) ≡ pos 0
+lone-flat ps k few h =
+    let first : k ≡ 0 = omega arith in
+    rw first (omega (arith, ints, turn-rotate (at ps 0) (at ps 0) (at ps 1), turn-first (at ps 0) (at ps 1)))
+
+few_or_many : (n : ℕ) → (n ≤ 1) ⊎ (1 < n)
+few_or_many n = grind arith
+
+spread-points : (ps : List Point) → AllByRecursion HasCoordinates ps → IsSpread ps → IsSpreadOut ps
+spread-points ps small spread = elim (all_or_some (λ k. turn (at ps 0) (at ps 1) (at ps k)) (length ps)) [
+  | inl all ↦ absurd (spread.1 (flat-line ps small spread.0 all))
+  | inr some ↦ elim (few_or_many (length ps)) [
+    | inl few ↦ absurd (some.2 (lone-flat ps some.0 few some.1))
+    | inr many ↦ record { a = 0; b = 1; c = some.0; a_listed = omega arith; b_listed = many; c_listed = some.1; turned = some.2 }
+  ]
+]
+
+-- ---- the file's own triangles
+exchange-one : (t : Triple) (b : Bool) → IsExchange t (cond b (record { a = t.a; b = t.c; c = t.b }) t)
+exchange-one t true = inr refl
+exchange-one t false = inl refl
+
+exchange-all : (ps : List Point) (ts : List Triple) (i : ℕ) → i < length ts → IsExchange (triangle_at ts i) (triangle_at (turned ps ts) i)
+exchange-all ps [] i h = absurd (omega arith)
+exchange-all ps (t ∷ ts) zero h = exchange-one t (int_lt (turn_of ps t) (pos 0))
+exchange-all ps (t ∷ ts) (suc i) h = exchange-all ps ts i (omega arith)
+
+tiles-turned : (ps : List Point) (ts : List Triple) → Tiles ps ts ↔ Tiles ps (turned ps ts)
+tiles-turned ps ts = exchanged_triangles_tile ps ts (turned ps ts) (sym (length-map ts (turned_of ps))) (exchange-all ps ts)
+
+pub triangulated-tiles : (m : Mesh) → AllByRecursion HasCoordinates m.points → IsTriangulated m → Tiles m.points m.triangles
+triangulated-tiles m small mesh = matched_triangles_tile m.points m.triangles mesh.hull (small-points m.points small) (spread-points m.points small (mesh.distinct, mesh.spread)) mesh.is_hull mesh.turned mesh.matched
+
+pub accepted-tiles : (ps : List Point) (ts : List Triple) (m : Mesh) → AllByRecursion HasCoordinates ps → IsAccepted ps ts m → Tiles ps ts
+accepted-tiles ps ts m small accepted = (tiles-turned ps ts).1 (triangulated-tiles (record { points = ps; triangles = turned ps ts }) small (subst IsTriangulated accepted.whole accepted.triangulated))
+
+-- ---- edges that stand once
+once-back : {A : Type 0} (xs ys : List A) → Once (xs ++ ys) → Once ys
+once-back [] ys once = once
+once-back (x ∷ xs) ys once = once-back xs ys once.1
+
+among-right : {A : Type 0} (x : A) (xs ys : List A) → Among x ys → Among x (xs ++ ys)
+among-right x [] ys among = among
+among-right x (z ∷ xs) ys among = inr (among-right x xs ys among)
+
+once-apart : {A : Type 0} (x : A) (xs ys : List A) → Once (xs ++ ys) → Among x xs → Among x ys → ⊥
+once-apart x [] ys once none second = none
+once-apart x (z ∷ xs) ys once (inl same) second = once.0 (subst (λ y. Among y (xs ++ ys)) same (among-right x xs ys second))
+once-apart x (z ∷ xs) ys once (inr first) second = once-apart x xs ys once.1 first second
+
+among-left : {A : Type 0} (x : A) (xs ys : List A) → Among x xs → Among x (xs ++ ys)
+among-left x [] ys none = absurd none
+among-left x (z ∷ xs) ys (inl same) = inl same
+among-left x (z ∷ xs) ys (inr among) = inr (among-left x xs ys among)
+
+side-edge : (s : Segment) (ts : List Triple) (i : ℕ) → i < length ts → Among s (sides (triangle_at ts i)) → Among s (edges ts)
+side-edge s [] i h among = absurd (omega arith)
+side-edge s (t ∷ ts) zero h among = among-left s (sides t) (edges ts) among
+side-edge s (t ∷ ts) (suc i) h among = among-right s (sides t) (edges ts) (side-edge s ts i (omega arith) among)
+
+once-shared : (s : Segment) (ts : List Triple) (t u : ℕ) → Once (edges ts) → t < u → u < length ts → Among s (sides (triangle_at ts t)) → Among s (sides (triangle_at ts u)) → ⊥
+once-shared s [] t u once h k first second = omega arith
+once-shared s (x ∷ ts) zero zero once h k first second = omega arith
+once-shared s (x ∷ ts) zero (suc u) once h k first second = once-apart s (sides x) (edges ts) once first (side-edge s ts u (omega arith) second)
+once-shared s (x ∷ ts) (suc t) zero once h k first second = omega arith
+once-shared s (x ∷ ts) (suc t) (suc u) once h k first second = once-shared s ts t u (once-back (sides x) (edges ts) once) (omega arith) (omega arith) first second
+
+-- ---- where they tile, no check of edges fails
+matched-misfit : (ps : List Point) (hull : List Segment) (ts : List Triple) (f : FileFault) → IsHull ps hull → IsMatched hull ts → IsMisfit (IsHullSegment ps) ts f → ⊥
+matched-misfit ps hull ts (Twice t u) h matched misfit = let twice = misfit.second.holds in once-shared twice.edge ts t u matched.once twice.ordered twice.listed twice.shared.first twice.shared.second
+matched-misfit ps hull ts (Unmatched a b) h matched misfit = let lone = misfit.1.second.holds in elim (matched.matched (a, b) lone.edge) [ inl back ↦ lone.lone back | inr outer ↦ lone.inner (h.each a b outer) ]
+matched-misfit ps hull ts (Bare a b) h matched misfit = let bare = misfit.2.second.holds in bare.bare (matched.covered (a, b) (h.whole a b bare.outer))
+matched-misfit ps hull ts _ h matched misfit = misfit
+
+all-at : (P : Triple → Type 0) (ts : List Triple) (i : ℕ) → AllByRecursion P ts → i < length ts → P (triangle_at ts i)
+all-at P [] i all h = absurd (omega arith)
+all-at P (t ∷ ts) zero all h = all.0
+all-at P (t ∷ ts) (suc i) all h = all-at P ts i all.1 (omega arith)
+
+distinct-repeat : (ps : List Point) (i j : ℕ) → AreDistinct ps → IsRepeat ps i j → ⊥
+distinct-repeat ps i j distinct repeat = let same : i ≡ j = distinct i j (omega (arith, repeat.ordered, repeat.listed)) repeat.listed repeat.equal in omega (arith, repeat.ordered)
+
+module _ (ps : List Point) (ts : List Triple) (small : AllByRecursion HasCoordinates ps) (spread : IsSpread ps) (listed : AreListed ps ts) (unit : AreUnit ps ts) (tiles : Tiles ps ts) where
+  tiled-matched : (hull : List Segment) → IsHull ps hull → IsMatched hull (turned ps ts)
+  tiled-matched hull h = tiling_triangles_match ps (turned ps ts) hull (small-points ps small) spread.0 (spread-points ps small spread) h (turned-all ps ts listed unit) ((tiles-turned ps ts).0 tiles)
+
+  tiled-fault : (hull : List Segment) → IsHull ps hull → (f : FileFault) → IsFirstFault ps ts f → ⊥
+  tiled-fault hull h (Repeated i j) fault = distinct-repeat ps i j spread.0 fault.second.holds
+  tiled-fault hull h (Index t) fault = fault.1.2 (all-at (IsListed ps) ts t listed fault.1.0)
+  tiled-fault hull h Flat fault = spread.1 fault.2
+  tiled-fault hull h (Area t doubled) fault = fault.2.2 (all-at (IsUnit ps) ts t unit fault.2.0)
+  tiled-fault hull h f fault = matched-misfit ps hull (turned ps ts) f h (tiled-matched hull h) fault.3
+
+  pub tiled-answer : (hull : List Segment) → IsHull ps hull → (e : InputError) → IsAnswer ps ts e → e ≡ Memory
+  tiled-answer hull h (Fault f) fault = absurd (tiled-fault hull h f fault)
+  tiled-answer hull h Memory fault = refl
+
+-- ---- the checks before there is a hull
+pub early-answer : (ps : List Point) (ts : List Triple) (e : InputError) → IsEarlyAnswer ps ts e → IsAnswer ps ts e
+early-answer ps ts (Fault (Repeated i j)) fault = fault
+early-answer ps ts (Fault (Index t)) fault = fault
+early-answer ps ts (Fault Flat) fault = fault
+early-answer ps ts (Fault f) fault = absurd fault
+early-answer ps ts Memory fault = tt
+
+pub early-memory : (ps : List Point) (ts : List Triple) → IsSpread ps → AreListed ps ts → (e : InputError) → IsEarlyAnswer ps ts e → e ≡ Memory
+early-memory ps ts spread listed (Fault (Repeated i j)) fault = absurd (distinct-repeat ps i j spread.0 fault.second.holds)
+early-memory ps ts spread listed (Fault (Index t)) fault = absurd (fault.1.2 (all-at (IsListed ps) ts t listed fault.1.0))
+early-memory ps ts spread listed (Fault Flat) fault = absurd (spread.1 fault.2)
+early-memory ps ts spread listed (Fault f) fault = absurd fault
+early-memory ps ts spread listed Memory fault = refl
