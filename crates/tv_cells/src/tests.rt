@@ -2,7 +2,7 @@
 
 use crate::cell::Cell;
 use crate::legs::Legs;
-use crate::{costs, extras, order};
+use crate::{costs, extras, order, overlap};
 use std::alloc::Global;
 use std::test::Fail;
 use tv_partition::diagram::Diagram;
