@@ -3,3 +3,6 @@ pub mod Rising
 pub mod Downward
 pub mod Sublists
 pub mod Cubes
+pub mod Diagonals
+pub mod Overlaps
+pub mod Bounded

@@ -1,8 +1,11 @@
 -- What a diagram on an edge and the legs of a corner add to the Euler characteristic.
 --
 -- edge_cost rows a b  == the sum of 1 - a i - b j over the cells (i, j) of the diagram
+-- column_cost legs x y == what the cells over (x, y) add to the overlap cost: in the leg along z each cell of another
+--                        leg adds 1, else each cell of both others
 -- overlap_cost legs   == 1 for each cell in exactly two legs, and 2 for each cell in three
-use Rattle.std.specs.Prelude.{ℕ, zero, suc, ◌+◌, ◌-◌, ℤ, pos, ◌+ℤ◌, ◌-ℤ◌, ◌*ℤ◌, List, [], ◌∷◌}
+use Rattle.std.specs.Prelude.{ℕ, zero, suc, ◌+◌, ◌-◌, ℤ, pos, ◌+ℤ◌, ◌-ℤ◌, ◌*ℤ◌, min, cond, slice_index, List, [], ◌∷◌}
+use Rattle.tv_partition.specs.Rows.{has}
 use Rattle.tv_cells.specs.declared.cell.Cell.{Cell}
 use Rattle.tv_cells.specs.declared.legs.Legs.{Legs}
 use Rattle.tv_cells.specs.Cells.{cube}
@@ -25,6 +28,9 @@ edge_cost rows a b = rows_cost a b 0 rows
 unfoldable pub overlaps : Legs → List Cell → ℕ
 overlaps legs [] = 0
 overlaps legs (c ∷ cells) = (legs_at legs c - 1) + overlaps legs cells
+
+abbrev pub column_cost : Legs → ℕ → ℕ → ℕ
+column_cost legs x y = cond (has legs.along_z x y) (slice_index legs.along_x y + slice_index legs.along_y x) (min (slice_index legs.along_x y) (slice_index legs.along_y x))
 
 -- a cell in two legs has all entries below the extent
 unfoldable pub overlap_cost : Legs → ℕ

@@ -2,9 +2,11 @@
 #![tactic(auto)]
 
 pub mod cell;
+pub mod costs;
 pub mod extras;
 pub mod laws;
 pub mod legs;
 pub mod order;
+pub mod overlap;
 #[cfg(test)]
 mod tests;

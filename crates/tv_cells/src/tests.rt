@@ -2,7 +2,7 @@
 
 use crate::cell::Cell;
 use crate::legs::Legs;
-use crate::{extras, order};
+use crate::{costs, extras, order, overlap};
 use std::alloc::Global;
 use std::test::Fail;
 use tv_partition::diagram::Diagram;
@@ -61,5 +61,27 @@ fn takes_rising_extras_alone(rt: HostRuntime) -> Result<(), Fail> {
     ] {
         assert!(rt; !extras::valid(&legs, bad), "{bad:?}");
     }
+    Ok(())
+}
+
+#[test]
+fn takes_the_costs(rt: HostRuntime) -> Result<(), Fail> {
+    let row = diagram(rt.alloc(), &[2])?;
+    let column = diagram(rt.alloc(), &[1, 1])?;
+    assert_eq!(rt; costs::edge_cost(&row, -3, 1), 1);
+    assert_eq!(rt; costs::edge_cost(&column, -3, 1), 5);
+    let legs = Legs {
+        along_x: diagram(rt.alloc(), &[1])?,
+        along_y: diagram(rt.alloc(), &[1])?,
+        along_z: diagram(rt.alloc(), &[1])?,
+    };
+    assert_eq!(rt; overlap::overlap_cost(&legs), 2);
+    let two = Legs {
+        along_x: diagram(rt.alloc(), &[2, 1])?,
+        along_y: Diagram::empty(rt.alloc()),
+        along_z: diagram(rt.alloc(), &[2])?,
+    };
+    assert_eq!(rt; overlap::overlap_cost(&two), 3);
+    assert_eq!(rt; two.extent(), 2);
     Ok(())
 }

@@ -1,5 +1,5 @@
 -- A set into which all diagrams of a size are put in order numbers them by their places in the list.
-use Rattle.std.proofs.Common.{◌≡◌, ℕ, zero, suc, ◌<◌, Bool, true, List, [], ◌∷◌, length, nat_eq, rules, arith, refl, sym, ◌∙◌, ap}
+use Rattle.std.proofs.Common.{◌≡◌, ℕ, zero, suc, ◌<◌, List, [], ◌∷◌, length, nat_eq, rules, arith, refl, sym, ◌∙◌, ap}
 use Rattle.std.specs.Prelude.{Option, Some, None, IsSome, IfSome, is_some, slice_get, slice_index_or, ◌↔◌}
 use Rattle.std.specs.List.{list_any, position}
 use Rattle.std.specs.Cmp.{IsEquivalence}
@@ -8,7 +8,7 @@ use Rattle.std.specs.Cmp.Rules.{comparing}
 use Rattle.std.proofs.lemmas.List.Quantifiers.{position-Some}
 use Rattle.indexmap.specs.IndexSet.{insert_all}
 use Rattle.indexmap.proofs.SetLemmas.{set_all_distinct}
-use Rattle.tv_partition.specs.Rows.{IsDiagram, IsSmall, size, diagrams}
+use Rattle.tv_partition.specs.Rows.{IsSmall, size, diagrams}
 use Rattle.tv_partition.proofs.Descending.{diagrams-once}
 use Rattle.tv_partition.proofs.Members.{same_lists, diagrams-are-all}
 

@@ -1,5 +1,5 @@
 -- The diagrams are written row by row: what is written and what is left make the whole.
-use Rattle.std.proofs.Common.{◌≡◌, ℕ, zero, suc, ◌+◌, ◌-◌, ◌≤◌, ◌<◌, min, List, [], ◌∷◌, ◌++◌, map, arith, refl, sym, ◌∙◌, ap, subst, append_assoc, append-nil}
+use Rattle.std.proofs.Common.{◌≡◌, ℕ, zero, suc, ◌+◌, ◌-◌, ◌≤◌, ◌<◌, min, List, [], ◌∷◌, ◌++◌, map, arith, refl, sym, ◌∙◌, ap, append_assoc, append-nil}
 use Rattle.std.specs.List.{flat_map}
 use Rattle.tv_partition.specs.Rows.{FallsFrom, IsDiagram, IsSmall, size, diagrams, diagrams_within, down_from}
 use Rattle.tv_partition.specs.Within.{CanEnd, behind, after}

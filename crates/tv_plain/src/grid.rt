@@ -2,7 +2,7 @@
 
 ghost use Rattle.std.specs.Prelude.{◌≡◌, ◌+◌, ◌-◌, ◌*◌, ◌<◌, ◌^◌, ◌++◌, OnOk, IfOk};
 ghost use Rattle.tv_cells.specs.Cells.{cube};
-ghost use Rattle.tv_plain.specs.Grid.{heights, columns, diagonal_of};
+ghost use Rattle.tv_cells.specs.Grid.{heights, columns, diagonal_of};
 
 use std::alloc::{AllocError, Global};
 use tv_cells::cell::Cell;

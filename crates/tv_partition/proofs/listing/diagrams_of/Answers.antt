@@ -1,4 +1,4 @@
-use Rattle.std.proofs.Common.{◌≡◌, ◌++◌, ◌∙◌, ap}
+use Rattle.std.proofs.Common.{◌++◌, ◌∙◌, ap}
 use Rattle.tv_partition.specs.Rows.{diagrams_within}
 use Rattle.tv_partition.specs.Within.{behind}
 use Rattle.tv_partition.proofs.Written.{behind-nothing}

@@ -1,5 +1,5 @@
 use Rattle.std.proofs.Common.{◌≡◌, ◌-◌, ◌++◌}
-use Rattle.tv_partition.specs.Rows.{columns, flipped}
+use Rattle.tv_partition.specs.Rows.{columns}
 use Rattle.tv_partition.proofs.shape.flipped.Given as goal
 
 abbrev pub invariant-loop-j : goal.invariant-loop-j

@@ -1,5 +1,5 @@
 use Rattle.std.proofs.Common.{◌≡◌, ◌-◌, ◌++◌}
-use Rattle.tv_plain.specs.Grid.{heights}
+use Rattle.tv_cells.specs.Grid.{heights}
 use Rattle.tv_plain.proofs.grid.push_column.Given as goal
 
 abbrev pub invariant-loop-z : goal.invariant-loop-z

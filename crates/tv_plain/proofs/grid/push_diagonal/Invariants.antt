@@ -1,5 +1,5 @@
 use Rattle.std.proofs.Common.{◌≡◌, ◌-◌, ◌++◌}
-use Rattle.tv_plain.specs.Grid.{columns}
+use Rattle.tv_cells.specs.Grid.{columns}
 use Rattle.tv_plain.proofs.grid.push_diagonal.Given as goal
 
 abbrev pub invariant-loop-d : goal.invariant-loop-d

@@ -1,4 +1,4 @@
--- Parts of a cube, as they are written cell by cell.
+-- Parts of a cube: columns, diagonals, and the diagonals by their numbers.
 --
 -- heights x y k n       == the cells at (x, y) with z from k on, n of them
 -- columns x y h k n     == the columns of height h at (x + k, y + k) and the n - 1 places after it
