@@ -13,7 +13,8 @@ use Rattle.tv_triangulation.specs.Checks.{AreListed, AreUnit}
 use Rattle.tv_triangulation.specs.Faults.{IsAccepted}
 use Rattle.tv_spec_boxes.specs.OneCorner.{NamesAll}
 use Rattle.tv_acceptance.specs.Laws.{PassingTrianglesTile, TilingTrianglesPass, OneTriangleIsACorner}
-use Rattle.tv_acceptance.proofs.Tiled.{triangulated-tiled, tiled-no_fault}
+use Rattle.tv_triangulation.proofs.Tilings.{accepted-tiles}
+use Rattle.tv_acceptance.proofs.Tiled.{tiled-no_fault}
 use Rattle.tv_acceptance.proofs.OneTriangle.{one_triangle}
 
 unit_of : (z : ℤ) → z ≡ pos 1 → unsigned_abs z ≡ 1
@@ -36,7 +37,8 @@ mesh_of : (ps : List Point) (ts : List Triple) (m : Mesh) → IsAccepted ps ts m
 mesh_of ps ts m h = subst IsTriangulated h.whole h.triangulated
 
 pub passing_triangles_tile : PassingTrianglesTile
-passing_triangles_tile ps ts m coordinates h = let mesh = mesh_of ps ts m h in let plain = unturned ps ts mesh.turned in triangulated-tiled ps ts coordinates plain.0 plain.1 mesh
+passing_triangles_tile ps ts m coordinates h = let mesh = mesh_of ps ts m h in let plain = unturned ps ts mesh.turned in
+    record { distinct = mesh.distinct; spread = mesh.spread; listed = plain.0; unit = plain.1; tiles = accepted-tiles ps ts m coordinates h }
 
 pub tiling_triangles_pass : TilingTrianglesPass
 tiling_triangles_pass ps ts f coordinates tiled fault = tiled-no_fault ps ts coordinates tiled f fault

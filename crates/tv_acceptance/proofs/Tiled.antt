@@ -9,13 +9,11 @@ use Rattle.tv_spec_hull.specs.Edges.{sides, edges, IsListed, AreTurned}
 use Rattle.tv_lattice.specs.Limits.{HasCoordinates}
 use Rattle.tv_lattice.specs.declared.fault.FileFault.{FileFault}
 use Rattle.tv_lattice.specs.declared.fault.FileFault.TheVariants.{TooLong, Line, Json, TooMany, Repeated, Index, Flat, Area, Twice, Unmatched, Bare, HeightCount, Degree}
-use Rattle.tv_triangulation.specs.Mesh.{IsTriangulated}
 use Rattle.tv_triangulation.specs.Turned.{turned, IsUnit}
 use Rattle.tv_triangulation.specs.Checks.{AreListed, AreUnit, IsTwice, IsUnmatched, IsBare}
 use Rattle.tv_triangulation.specs.Faults.{IsFirstFault}
 use Rattle.tv_tiling.specs.Points.{AreSmall}
 use Rattle.tv_tiling.proofs.Lists.{all-at, among-flat_map}
-use Rattle.tv_tiling.proofs.Matched.{matched_triangles_tile}
 use Rattle.tv_tiling.proofs.Exchanges.{exchanged_triangles_tile}
 use Rattle.tv_tiling_converse.proofs.Neighbours.{edges-once, edges-outer}
 use Rattle.tv_tiling_converse.proofs.Tiled.{outer-covered}
@@ -29,16 +27,6 @@ no_triple = record { a = 0; b = 0; c = 0 }
 small_all : (ps : List Point) → AllByRecursion HasCoordinates ps → AreSmall ps
 small_all [] h = tt
 small_all (p ∷ ps) h = (record { x = h.0.0; y = h.0.1 }, small_all ps h.1)
-
--- what passes the checks tiles
-pub triangulated-tiled : (ps : List Point) (ts : List Triple) → AllByRecursion HasCoordinates ps → AreListed ps ts → AreUnit ps ts → IsTriangulated (record { points = ps; triangles = turned ps ts }) → IsTiled ps ts
-triangulated-tiled ps ts coordinates listed unit m = record {
-  distinct = m.distinct;
-  spread = m.spread;
-  listed = listed;
-  unit = unit;
-  tiles = (exchanged_triangles_tile ps ts (turned ps ts) (length-turned ps ts) (exchange_at ps ts)).1 (matched_triangles_tile ps (turned ps ts) m.hull (small_all ps coordinates) (not_flat-spread ps m.spread) m.is_hull m.turned m.matched);
-}
 
 among-right : {B : Type 0} (u : B) (us vs : List B) → Among u vs → Among u (us ++ vs)
 among-right u [] vs q = q
