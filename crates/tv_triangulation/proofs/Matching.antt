@@ -60,9 +60,9 @@ misfit-outer ps hull h ts _ misfit = absurd misfit
 
 -- a first fault
 pub misfit-fault : (ps : List Point) (hull : List Segment) → IsHull ps hull → (ts : List Triple) → IsSpread ps → AreListed ps ts → AreUnit ps ts → (f : FileFault) → IsMisfit (IsListedIn hull) (turned ps ts) f → IsFirstFault ps ts f
-misfit-fault ps hull h ts spread listed unit (Twice t u) misfit = (spread, listed, unit, misfit-outer ps hull h (turned ps ts) (Twice t u) misfit)
-misfit-fault ps hull h ts spread listed unit (Unmatched a b) misfit = (spread, listed, unit, misfit-outer ps hull h (turned ps ts) (Unmatched a b) misfit)
-misfit-fault ps hull h ts spread listed unit (Bare a b) misfit = (spread, listed, unit, misfit-outer ps hull h (turned ps ts) (Bare a b) misfit)
+misfit-fault ps hull h ts spread listed unit (Twice t u) misfit = ((spread, listed, unit), misfit-outer ps hull h (turned ps ts) (Twice t u) misfit)
+misfit-fault ps hull h ts spread listed unit (Unmatched a b) misfit = ((spread, listed, unit), misfit-outer ps hull h (turned ps ts) (Unmatched a b) misfit)
+misfit-fault ps hull h ts spread listed unit (Bare a b) misfit = ((spread, listed, unit), misfit-outer ps hull h (turned ps ts) (Bare a b) misfit)
 misfit-fault ps hull h ts spread listed unit _ misfit = absurd misfit
 
 -- ---- no fault

@@ -140,7 +140,7 @@ module _ (ps : List Point) (ts : List Triple) (small : AllByRecursion HasCoordin
   tiled-fault hull h (Index t) fault = fault.1.2 (all-at (IsListed ps) ts t listed fault.1.0)
   tiled-fault hull h Flat fault = spread.1 fault.2
   tiled-fault hull h (Area t doubled) fault = fault.2.2 (all-at (IsUnit ps) ts t unit fault.2.0)
-  tiled-fault hull h f fault = matched-misfit ps hull (turned ps ts) f h (tiled-matched hull h) fault.3
+  tiled-fault hull h f fault = matched-misfit ps hull (turned ps ts) f h (tiled-matched hull h) fault.1
 
   pub tiled-answer : (hull : List Segment) → IsHull ps hull → (e : InputError) → IsAnswer ps ts e → e ≡ Memory
   tiled-answer hull h (Fault f) fault = absurd (tiled-fault hull h f fault)

@@ -3,8 +3,8 @@
 ghost use Rattle.std.specs.Prelude.{◌≡◌, ◌≤◌, length, IsOkUnless, MatchResult, OnOk};
 ghost use Rattle.tv_spec_plane.specs.Tiling.{Tiles};
 ghost use Rattle.tv_spec_hull.specs.Hull.{IsHull};
-ghost use Rattle.tv_triangulation.specs.Checks.{AreListed, AreUnit};
-ghost use Rattle.tv_triangulation.specs.Faults.{IsSpread, IsAnswer, IsEarlyAnswer, IsAccepted};
+ghost use Rattle.tv_triangulation.specs.Checks.{AreListed};
+ghost use Rattle.tv_triangulation.specs.Faults.{IsSpread, AreSound, IsAnswer, IsEarlyAnswer, IsAccepted};
 
 use crate::area::first_uneven;
 use crate::edges::edges_of;
@@ -32,7 +32,7 @@ pub fn triangulate(
     requires triangles { length triangles.now ≤ 128 }
     ensures checks { MatchResult result (IsAccepted points.now triangles.now) (IsAnswer points.now triangles.now) }
     ensures tiles { OnOk result (Tiles points.now triangles.now) }
-    ensures accepts { IsSpread points.now → AreListed points.now triangles.now → AreUnit points.now triangles.now → Tiles points.now triangles.now → IsOkUnless result InputError.Memory }
+    ensures accepts { AreSound points.now triangles.now → Tiles points.now triangles.now → IsOkUnless result InputError.Memory }
 {
     known(points);
     let hull = hull_of(alloc, points, triangles)?;

@@ -8,7 +8,7 @@ returns c =
     record {
       checks = c.fitted.ensures;
       tiles = MatchResult-weaker c.fitted.result c.fitted.ensures (λ m accepted. accepted-tiles ps ts m small accepted) (λ e fault. tt);
-      accepts = λ spread listed unit tiles. MatchResult-weaker c.fitted.result c.fitted.ensures (λ m accepted. tt) (tiled-answer ps ts small spread listed unit tiles c.in_ok-hull.hull.items c.in_ok-hull.ensures.0);
+      accepts = λ sound tiles. MatchResult-weaker c.fitted.result c.fitted.ensures (λ m accepted. tt) (tiled-answer ps ts small sound.0 sound.1 sound.2 tiles c.in_ok-hull.hull.items c.in_ok-hull.ensures.0);
     }
 
 pub returns-in_err-hull : goal.returns-in_err-hull
@@ -18,5 +18,5 @@ returns-in_err-hull c =
     rw (p.1, p.2) (record {
       checks = early-answer ps ts e c.in_err-hull.ensures;
       tiles = tt;
-      accepts = λ spread listed unit tiles. early-memory ps ts spread listed e c.in_err-hull.ensures;
+      accepts = λ sound tiles. early-memory ps ts sound.0 sound.1 e c.in_err-hull.ensures;
     })
