@@ -41,7 +41,7 @@ unsound_heights w k limits mesh count other = record { tiled = tiled w limits me
 -- the first check of points and triangles that fails is the first of all
 pub unsound_answer : (w : Web) (e : InputError) → IsAnswer w.points w.triangles e → IsUnsound w e
 unsound_answer w Memory h = tt
-unsound_answer w (Fault (HeightCount k)) h = absurd h.3
+unsound_answer w (Fault (HeightCount k)) h = absurd h.1
 unsound_answer w (Fault TooLong) h = h
 unsound_answer w (Fault (Line n)) h = h
 unsound_answer w (Fault Json) h = h
