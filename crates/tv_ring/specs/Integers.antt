@@ -1,7 +1,7 @@
 -- The laws of sums and products of whole numbers, each read as the difference of its upper and its lower part.
-use Rattle.std.proofs.Common.{◌≡◌, ℕ, ◌+◌, ◌*◌, ◌≤◌, ℤ, pos, ◌+ℤ◌, ◌*ℤ◌, neg_ℤ, unsigned_abs, ◌∙◌, ap, refl, sym, arith, mul_assoc, mul-add, add-mul, mul_comm, add_assoc}
-use Rattle.std.proofs.lemmas.Int.{ints, unsigned_abs-mul}
-use borrow.Author.Differences.{up, down, same_in, sum_is_lem, neg_is, product_is}
+use Rattle.std.proofs.Common.{◌≡◌, ◌+◌, ◌*◌, ◌≤◌, ℤ, pos, ◌+ℤ◌, ◌*ℤ◌, neg_ℤ, unsigned_abs, ap, arith, mul_assoc, mul-add, add-mul, mul_comm}
+use Rattle.std.proofs.lemmas.Int.{ints}
+use borrow.Author.Differences.{up, down, same_in, sum_is_lem, product_is}
 
 pub +ℤ_comm : (x y : ℤ) → x +ℤ y ≡ y +ℤ x
 +ℤ_comm x y = omega (arith, ints)

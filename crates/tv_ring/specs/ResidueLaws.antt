@@ -1,5 +1,5 @@
 -- The remainders modulo a number are a ring.
-use Rattle.std.proofs.Common.{◌≡◌, ℕ, ◌+◌, ◌-◌, ◌*◌, ◌%◌, ◌<◌, ◌≤◌, max, refl, sym, ◌∙◌, ap, arith, ◌==◌, true, mod-lt, mod-eq_of_lt, mul_comm, mul_assoc, mul-add, mul-one}
+use Rattle.std.proofs.Common.{◌≡◌, ℕ, ◌+◌, ◌-◌, ◌*◌, ◌%◌, ◌<◌, refl, sym, ◌∙◌, ap, arith, ◌==◌, true, mod-eq_of_lt, mul_comm, mul_assoc, mul-add, mul-one}
 use Rattle.std.proofs.lemmas.Nat.{mul-mod_first, mod_below}
 use Rattle.std.proofs.Math.Nat.{mod-add-mod, add-mod-mod, mod_self}
 use Rattle.std.proofs.lemmas.Bool.Decides.{nat_tests}

@@ -8,8 +8,9 @@
 --   total_below f n          == the sum of the numbers f 0, f 1, .., f (n - 1)
 --   size_term r f g k i      == size (f i) * size (g (k - i))
 --   size_convolution r f g k == the sum of the sizes of the terms at k
---   times r n                == n times one
-use Rattle.std.specs.Prelude.{ℕ, zero, suc, ◌+◌, ◌-◌, ◌*◌, List, slice_index_or}
+--   times r n                == n times one, for a number n from 0 on
+--   whole_times r z          == z times one, for a whole number z
+use Rattle.std.specs.Prelude.{ℕ, zero, suc, ◌+◌, ◌-◌, ◌*◌, ℤ, pos, negsuc, List, slice_index_or}
 use Rattle.tv_ring.specs.Operations.{Operations}
 
 unfoldable pub sum_below : {A : Type 0} → Operations A → (ℕ → A) → ℕ → A
@@ -38,3 +39,7 @@ size_convolution r f g k = total_below (size_term r f g k) (suc k)
 unfoldable pub times : {A : Type 0} → Operations A → ℕ → A
 times r zero = r.nought
 times r (suc n) = r.add (times r n) r.unit
+
+unfoldable pub whole_times : {A : Type 0} → Operations A → ℤ → A
+whole_times r (pos n) = times r n
+whole_times r (negsuc n) = r.neg (times r (suc n))

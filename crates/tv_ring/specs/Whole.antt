@@ -3,7 +3,7 @@
 --   is_zero n     == whether a whole number is 0
 --   wholes        == the operations on whole numbers; the size is the absolute value, and no exponent is reached
 --   IsAny n       == always: each whole number is a value
-use Rattle.std.specs.Prelude.{ℕ, ℤ, pos, ◌+ℤ◌, ◌*ℤ◌, neg_ℤ, unsigned_abs, Bool, ◌==◌}
+use Rattle.std.specs.Prelude.{ℤ, pos, ◌+ℤ◌, ◌*ℤ◌, neg_ℤ, unsigned_abs, Bool, ◌==◌}
 use Rattle.tv_ring.specs.Operations.{Operations}
 
 abbrev pub is_zero : ℤ → Bool

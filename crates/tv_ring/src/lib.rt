@@ -11,3 +11,6 @@ pub use fault::RingFault;
 pub use residue::Residue;
 pub use ring::Ring;
 pub use whole::Whole;
+
+#[cfg(test)]
+mod tests;
