@@ -2,7 +2,6 @@
 use Rattle.std.proofs.Common.{◌≡◌, refl, sym, ◌∙◌, ap}
 use Rattle.tv_ring.specs.Operations.{Operations, RingLaws}
 
-
 module _ {A : Type 0} {IsValue : A → Type 0} {r : Operations A} (laws : RingLaws IsValue r) where
   pub nought-add : (x : A) → IsValue x → r.add r.nought x ≡ x
   nought-add x v = laws.add_comm r.nought x laws.value_nought v ∙ laws.add-nought x v
@@ -53,10 +52,10 @@ module _ {A : Type 0} {IsValue : A → Type 0} {r : Operations A} (laws : RingLa
   neg-add x y vx vy =
       let nx = laws.value_neg x vx in let ny = laws.value_neg y vy in
       sym (neg_only (r.add x y) (r.add (r.neg x) (r.neg y)) (laws.value_add x y vx vy) (laws.value_add (r.neg x) (r.neg y) nx ny)
-        (add_across x y (r.neg x) (r.neg y) vx vy nx ny ∙ rw (laws.add-neg x vx, laws.add-neg y vy) (laws.add-nought r.nought laws.value_nought)))
+      (add_across x y (r.neg x) (r.neg y) vx vy nx ny ∙ rw (laws.add-neg x vx, laws.add-neg y vy) (laws.add-nought r.nought laws.value_nought)))
 
   pub neg-mul : (x y : A) → IsValue x → IsValue y → r.mul (r.neg x) y ≡ r.neg (r.mul x y)
   neg-mul x y vx vy =
       let n = laws.value_neg x vx in
       neg_only (r.mul x y) (r.mul (r.neg x) y) (laws.value_mul x y vx vy) (laws.value_mul (r.neg x) y n vy)
-        (sym (add-mul x (r.neg x) y vx n vy) ∙ ap (λ t. r.mul t y) (laws.add-neg x vx) ∙ nought-mul y vy)
+      (sym (add-mul x (r.neg x) y vx n vy) ∙ ap (λ t. r.mul t y) (laws.add-neg x vx) ∙ nought-mul y vy)

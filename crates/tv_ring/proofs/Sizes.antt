@@ -17,7 +17,7 @@ module _ {A : Type 0} {IsValue : A → Type 0} {r : Operations A} (laws : RingLa
   pub size-terms : (f g : ℕ → A) (k n : ℕ) → AreValues IsValue f → AreValues IsValue g → r.size (sum_below r (term r f g k) n) ≤ total_below (size_term r f g k) n
   size-terms f g k n v w =
       le_trans (size-sum_below (term r f g k) n (λ i. rw (term_is r f g k i) (laws.value_mul (f i) (g (k - i)) (v i) (w (k - i)))))
-        (total_below-≤ (λ i. r.size (term r f g k i)) (size_term r f g k) n (λ i _. rw (term_is r f g k i, size_term_is r f g k i) (sizes.size-mul (f i) (g (k - i)) (v i) (w (k - i)))))
+      (total_below-≤ (λ i. r.size (term r f g k i)) (size_term r f g k) n (λ i _. rw (term_is r f g k i, size_term_is r f g k i) (sizes.size-mul (f i) (g (k - i)) (v i) (w (k - i)))))
 
   pub size-convolution : (f g : ℕ → A) (k : ℕ) → AreValues IsValue f → AreValues IsValue g → r.size (convolution r f g k) ≤ size_convolution r f g k
   size-convolution f g k v w = rw (convolution_is r f g k, size_convolution_is r f g k) (size-terms f g k (suc k) v w)

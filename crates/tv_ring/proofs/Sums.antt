@@ -67,7 +67,7 @@ module _ {A : Type 0} {IsValue : A → Type 0} {r : Operations A} (laws : RingLa
   sum-add f g zero v w = rw (sum_below-none r (λ i. r.add (f i) (g i)), sum_below-none r f, sum_below-none r g) (sym (laws.add-nought r.nought laws.value_nought))
   sum-add f g (suc n) v w =
       rw (sum_below-more r (λ i. r.add (f i) (g i)) n, sum_below-more r f n, sum_below-more r g n, sum-add f g n v w)
-        (add_across laws (sum_below r f n) (sum_below r g n) (f n) (g n) (value_sum f n v) (value_sum g n w) (v n) (w n))
+      (add_across laws (sum_below r f n) (sum_below r g n) (f n) (g n) (value_sum f n v) (value_sum g n w) (v n) (w n))
 
   pub sum-mul : (x : A) (f : ℕ → A) (n : ℕ) → IsValue x → AreValues IsValue f → sum_below r (λ i. r.mul x (f i)) n ≡ r.mul x (sum_below r f n)
   sum-mul x f zero vx v = rw (sum_below-none r (λ i. r.mul x (f i)), sum_below-none r f) (sym (mul-nought laws x vx))
@@ -79,4 +79,4 @@ module _ {A : Type 0} {IsValue : A → Type 0} {r : Operations A} (laws : RingLa
   sum-front f zero v = rw (sum_below-more r f 0, sum_below-none r f, sum_below-none r (λ i. f (suc i))) (laws.add_comm r.nought (f 0) laws.value_nought (v 0))
   sum-front f (suc n) v =
       rw (sum_below-more r f (suc n), sum_below-more r (λ i. f (suc i)) n, sum-front f n v)
-        (laws.add_assoc (f 0) (sum_below r (λ i. f (suc i)) n) (f (suc n)) (v 0) (value_sum (λ i. f (suc i)) n (λ i. v (suc i))) (v (suc n)))
+      (laws.add_assoc (f 0) (sum_below r (λ i. f (suc i)) n) (f (suc n)) (v 0) (value_sum (λ i. f (suc i)) n (λ i. v (suc i))) (v (suc n)))

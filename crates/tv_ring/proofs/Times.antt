@@ -75,7 +75,7 @@ module _ {A : Type 0} {IsValue : A → Type 0} {r : Operations A} (laws : RingLa
       let e : z +ℤ w ≡ pos (up z + up w) -ℤ pos (down z + down w) = omega (arith, ints) in
       let a = value_times (up z) in let b = value_times (down z) in let c = value_times (up w) in let d = value_times (down w) in
       rw (e, whole_times-sub (up z + up w) (down z + down w), times-add (up z) (up w), times-add (down z) (down w), neg-add laws (times r (down z)) (times r (down w)) b d, whole_times-parts z, whole_times-parts w)
-        (add_across laws (times r (up z)) (times r (up w)) (r.neg (times r (down z))) (r.neg (times r (down w))) a c (laws.value_neg (times r (down z)) b) (laws.value_neg (times r (down w)) d))
+      (add_across laws (times r (up z)) (times r (up w)) (r.neg (times r (down z))) (r.neg (times r (down w))) a c (laws.value_neg (times r (down z)) b) (laws.value_neg (times r (down w)) d))
 
   pub whole_times-neg : (z : ℤ) → whole_times r (neg_ℤ z) ≡ r.neg (whole_times r z)
   whole_times-neg z = neg_only laws (whole_times r z) (whole_times r (neg_ℤ z)) (value_whole_times z) (value_whole_times (neg_ℤ z))
@@ -87,7 +87,7 @@ module _ {A : Type 0} {IsValue : A → Type 0} {r : Operations A} (laws : RingLa
       let e : pos m *ℤ negsuc n ≡ neg_ℤ (pos (m * suc n)) = same_in _ _ (let p = product_is (pos m) (negsuc n) in let q = neg_is (pos (m * suc n)) in rw (p.0, p.1) (omega arith)) in
       let a = value_times m in let b = value_times (suc n) in
       rw (e, whole_times-neg (pos (m * suc n)), whole_times-pos r (m * suc n), times-mul m (suc n), whole_times-negsuc r n)
-        (ap r.neg (laws.mul_comm (times r m) (times r (suc n)) a b) ∙ sym (neg-mul laws (times r (suc n)) (times r m) b a) ∙ laws.mul_comm (r.neg (times r (suc n))) (times r m) (laws.value_neg (times r (suc n)) b) a)
+      (ap r.neg (laws.mul_comm (times r m) (times r (suc n)) a b) ∙ sym (neg-mul laws (times r (suc n)) (times r m) b a) ∙ laws.mul_comm (r.neg (times r (suc n))) (times r m) (laws.value_neg (times r (suc n)) b) a)
 
   pub whole_times-mul : (z w : ℤ) → whole_times r (z *ℤ w) ≡ r.mul (whole_times r z) (whole_times r w)
   whole_times-mul (pos m) w = rw (times_by-pos m w, whole_times-pos r m) refl

@@ -35,7 +35,9 @@ impl<const M: u64> Residue<M> {
     pub fn new(n: u64) -> Residue<M>
         ensures value { result ≡ n % modulus M }
     {
-        Residue { value: n % M.max(1) }
+        Residue {
+            value: n % M.max(1),
+        }
     }
 
     /// The least remainder, from 0 on.
