@@ -1,9 +1,9 @@
 -- Products of sequences over a ring: they are commutative, associative and distributive.
 use Rattle.std.proofs.Common.{◌≡◌, ℕ, zero, suc, ◌-◌, ◌*◌, ◌<◌, ◌≤◌, refl, sym, ◌∙◌, ap, arith}
 use Rattle.tv_ring.specs.Operations.{Operations, RingLaws}
-use Rattle.tv_ring.specs.Sums.{sum_below, term, convolution, total_below, size_term, size_convolution}
+use Rattle.tv_ring.specs.Sums.{AreValues, sum_below, term, convolution, total_below, size_term, size_convolution}
 use Rattle.tv_ring.proofs.Rings.{nought-add}
-use Rattle.tv_ring.proofs.Sums.{sum_below-none, sum_below-more, sum_below-same, AreValues, value_sum, sum-add, sum-mul, sum-front}
+use Rattle.tv_ring.proofs.Sums.{sum_below-none, sum_below-more, sum_below-same, value_sum, sum-add, sum-mul, sum-front}
 
 pub term_is : {A : Type 0} (r : Operations A) (f g : ℕ → A) (k i : ℕ) → term r f g k i ≡ r.mul (f i) (g (k - i))
 unfolding term

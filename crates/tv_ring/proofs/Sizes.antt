@@ -1,8 +1,8 @@
 -- The sizes of sums, of products of sequences, and of multiples of one.
 use Rattle.std.proofs.Common.{◌≡◌, ℕ, zero, suc, ◌-◌, ◌*◌, ◌≤◌, arith, le_trans, suc-mul, ℤ, pos, negsuc, unsigned_abs}
 use Rattle.tv_ring.specs.Operations.{Operations, RingLaws, SizeLaws}
-use Rattle.tv_ring.specs.Sums.{sum_below, term, convolution, total_below, size_term, size_convolution, times, whole_times}
-use Rattle.tv_ring.proofs.Sums.{sum_below-none, sum_below-more, total_below-none, total_below-more, total_below-≤, AreValues, value_sum}
+use Rattle.tv_ring.specs.Sums.{AreValues, sum_below, term, convolution, total_below, size_term, size_convolution, times, whole_times}
+use Rattle.tv_ring.proofs.Sums.{sum_below-none, sum_below-more, total_below-none, total_below-more, total_below-≤, value_sum}
 use Rattle.tv_ring.proofs.Products.{term_is, size_term_is, convolution_is, size_convolution_is}
 use Rattle.tv_ring.proofs.Times.{times-none, times-more, whole_times-pos, whole_times-negsuc, value_times}
 

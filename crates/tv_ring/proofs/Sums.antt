@@ -1,7 +1,7 @@
 -- Finite sums over a ring, and sums of numbers.
 use Rattle.std.proofs.Common.{◌≡◌, ℕ, zero, suc, ◌+◌, ◌<◌, ◌≤◌, refl, sym, ◌∙◌, arith}
 use Rattle.tv_ring.specs.Operations.{Operations, RingLaws}
-use Rattle.tv_ring.specs.Sums.{sum_below, total_below}
+use Rattle.tv_ring.specs.Sums.{AreValues, sum_below, total_below}
 use Rattle.tv_ring.proofs.Rings.{mul-nought, add_across}
 
 pub sum_below-none : {A : Type 0} (r : Operations A) (f : ℕ → A) → sum_below r f 0 ≡ r.nought
@@ -47,10 +47,6 @@ total_below-fewer f m zero = let e : m + 0 ≡ m = omega arith in rw e (omega ar
 total_below-fewer f m (suc d) =
     let e : m + suc d ≡ suc (m + d) = omega arith in let fewer = total_below-fewer f m d in
     rw (e, total_below-more f (m + d)) (omega arith)
-
--- each place of a sequence has a value
-abbrev pub AreValues : {A : Type 0} → (A → Type 0) → (ℕ → A) → Type 0
-AreValues IsValue f = (i : ℕ) → IsValue (f i)
 
 module _ {A : Type 0} {IsValue : A → Type 0} {r : Operations A} (laws : RingLaws IsValue r) where
   pub value_sum : (f : ℕ → A) (n : ℕ) → AreValues IsValue f → IsValue (sum_below r f n)

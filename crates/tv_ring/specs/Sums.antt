@@ -8,6 +8,7 @@
 --   total_below f n          == the sum of the numbers f 0, f 1, .., f (n - 1)
 --   size_term r f g k i      == size (f i) * size (g (k - i))
 --   size_convolution r f g k == the sum of the sizes of the terms at k
+--   AreValues IsValue f      == each term of the sequence f is a value
 --   times r n                == n times one, for a number n from 0 on
 --   whole_times r z          == z times one, for a whole number z
 use Rattle.std.specs.Prelude.{ℕ, zero, suc, ◌+◌, ◌-◌, ◌*◌, ℤ, pos, negsuc, List, slice_index_or}
@@ -43,3 +44,6 @@ times r (suc n) = r.add (times r n) r.unit
 unfoldable pub whole_times : {A : Type 0} → Operations A → ℤ → A
 whole_times r (pos n) = times r n
 whole_times r (negsuc n) = r.neg (times r (suc n))
+
+abbrev pub AreValues : {A : Type 0} → (A → Type 0) → (ℕ → A) → Type 0
+AreValues IsValue f = (k : ℕ) → IsValue (f k)
