@@ -46,7 +46,7 @@ convolution-back r f g k =
       each i h = let e : suc k - i ≡ suc (k - i) = omega arith in rw (term_is r f g (suc k) i, e, term_is r f (λ i. g (suc i)) k i) refl
 
 module _ {A : Type 0} {IsValue : A → Type 0} {r : Operations A} (laws : RingLaws IsValue r) where
-  value_term : (f g : ℕ → A) (k : ℕ) → AreValues IsValue f → AreValues IsValue g → AreValues IsValue (term r f g k)
+  pub value_term : (f g : ℕ → A) (k : ℕ) → AreValues IsValue f → AreValues IsValue g → AreValues IsValue (term r f g k)
   value_term f g k v w i = rw (term_is r f g k i) (laws.value_mul (f i) (g (k - i)) (v i) (w (k - i)))
 
   pub value_convolution : (f g : ℕ → A) → AreValues IsValue f → AreValues IsValue g → AreValues IsValue (convolution r f g)

@@ -1,0 +1,9 @@
+pub mod Exponents
+pub mod Listed
+pub mod Padded
+pub mod SeriesFrom
+pub mod SeriesRing
+pub mod SeriesCalls
+pub mod Convolved
+pub mod Wide
+pub mod SeriesResults

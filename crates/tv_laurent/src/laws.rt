@@ -1,0 +1,12 @@
+// The laws of series and polynomials, as calls that do nothing and whose contracts are the laws.
+// They speak of the same sums and products as the contracts of the calls do.
+
+ghost use Rattle.tv_laurent.specs.SeriesLaws.{SeriesLaws};
+
+use tv_ring::Ring;
+
+/// Sums and products of series are commutative, associative and distributive, to the order that both sides know.
+pub fn series_are_a_ring<C: Ring>()
+    ensures laws { SeriesLaws C.IsValue C.ring }
+{
+}
