@@ -1,12 +1,12 @@
 -- A coefficient of a product, summed up over the pairs that meet in it.
-use Rattle.std.proofs.Common.{◌≡◌, ℕ, zero, suc, ◌+◌, ◌-◌, ◌*◌, ◌<◌, ◌≤◌, min, List, length, refl, sym, ◌∙◌, ap, arith, le_trans}
+use Rattle.std.proofs.Common.{◌≡◌, ℕ, zero, suc, ◌+◌, ◌-◌, ◌*◌, ◌<◌, ◌≤◌, min, List, length, refl, sym, ◌∙◌, arith}
 use Rattle.tv_ring.specs.Operations.{Operations, RingLaws, SizeLaws, limit}
 use Rattle.tv_ring.specs.Sums.{AreValues, at, sum_below, term, convolution, total_below, size_term, size_convolution}
 use Rattle.tv_ring.proofs.Rings.{mul-nought, nought-mul}
 use Rattle.tv_ring.proofs.Sums.{sum_below-more, sum-nought, value_sum, total_below-more, total_below-fewer}
 use Rattle.tv_ring.proofs.Products.{term_is, size_term_is, convolution_is, size_convolution_is, value_term}
 use Rattle.tv_ring.proofs.Sizes.{size-terms}
-use Rattle.tv_laurent.proofs.Listed.{at_past}
+use Rattle.tv_terms.proofs.Listed.{at_past}
 
 module _ {A : Type 0} {IsValue : A → Type 0} {r : Operations A} (laws : RingLaws IsValue r) (xs ys : List A) (v : AreValues IsValue (at r xs)) (w : AreValues IsValue (at r ys)) (k : ℕ) where
   -- terms that are nought add nothing

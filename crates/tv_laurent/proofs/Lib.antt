@@ -1,8 +1,3 @@
-pub mod Exponents
-pub mod Listed
-pub mod Padded
-pub mod SeriesFrom
-pub mod SeriesRing
 pub mod SeriesCalls
 pub mod Convolved
 pub mod Wide

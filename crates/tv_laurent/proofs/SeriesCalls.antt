@@ -1,16 +1,13 @@
 -- The results of the calls of a series are series again.
-use Rattle.std.proofs.Common.{◌≡◌, ℕ, ◌+◌, ◌<◌, ◌≤◌, min, ℤ, pos, ◌+ℤ◌, List, length, take, sym, subst, arith, inl, inr, refl, ◌*◌}
-use Rattle.std.specs.Int.{int_min}
+use Rattle.std.proofs.Common.{◌≡◌, ℕ, ◌+◌, min, ℤ, pos, ◌+ℤ◌, List, length, take, sym, subst, arith, refl, ◌*◌}
 use Rattle.std.proofs.lemmas.Int.{ints, clamps}
-use Rattle.std.proofs.lemmas.Bool.{cases_lt}
 use Rattle.std.proofs.lemmas.List.{length-take}
 use Rattle.tv_ring.specs.Operations.{Operations, RingLaws}
-use Rattle.tv_ring.specs.Sums.{AreValues, at}
-use Rattle.tv_laurent.specs.Terms.{Terms, terms, above, upto, IsWithin, IsBounded}
-use Rattle.tv_laurent.specs.Series.{series_shift, series_cut, IsSeries}
+use Rattle.tv_terms.specs.Terms.{Terms, above, IsWithin, IsBounded}
+use Rattle.tv_terms.specs.Series.{series_shift, series_cut, IsSeries}
 use Rattle.tv_laurent.specs.SeriesCalls.{sum_size, scale_size}
-use Rattle.tv_laurent.proofs.Exponents.{above_is}
-use Rattle.tv_laurent.proofs.Listed.{at-take, values_all}
+use Rattle.tv_terms.proofs.Exponents.{above_is}
+use Rattle.tv_terms.proofs.Listed.{at-take, values_all}
 
 pub same_series : {A : Type 0} {IsValue : A → Type 0} {r : Operations A} (a b : Terms A) → a ≡ b → IsSeries IsValue r b → IsSeries IsValue r a
 same_series {IsValue} {r} a b e s = subst (IsSeries IsValue r) (sym e) s

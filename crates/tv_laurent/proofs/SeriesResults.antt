@@ -1,19 +1,18 @@
 -- What the calls of a series put together is the sum, the product or the multiple.
-use Rattle.std.proofs.Common.{◌≡◌, ℕ, ◌+◌, ◌*◌, ◌<◌, ◌≤◌, min, ℤ, pos, ◌+ℤ◌, ◌-ℤ◌, List, length, refl, sym, ◌∙◌, ap, subst, arith}
+use Rattle.std.proofs.Common.{◌≡◌, ℕ, ◌+◌, min, ℤ, ◌+ℤ◌, List, length, refl, ◌∙◌, arith}
 use Rattle.std.specs.Int.{int_min}
 use Rattle.std.proofs.lemmas.Int.{ints, clamps}
 use Rattle.tv_ring.specs.Operations.{Operations, RingLaws}
-use Rattle.tv_ring.specs.Sums.{AreValues, at, convolution, size_convolution}
-use Rattle.tv_ring.proofs.Products.{value_convolution}
-use Rattle.tv_laurent.specs.Terms.{Terms, terms, above, upto, padded, from, known, listed, plus, scaled, IsWithin, IsBounded}
-use Rattle.tv_laurent.specs.Series.{series_sum, series_product, series_scale, IsSeries}
+use Rattle.tv_ring.specs.Sums.{at, convolution, size_convolution}
+use Rattle.tv_terms.specs.Terms.{Terms, terms, above, padded, from, known, listed, plus, scaled, IsBounded}
+use Rattle.tv_terms.specs.Series.{series_sum, series_product, series_scale, IsSeries}
 use Rattle.tv_laurent.specs.SeriesCalls.{IsWideAt, IsSumWide, IsProductWide, sum_size, OnWide}
 use Rattle.tv_laurent.specs.declared.fault.SeriesFault.{SeriesFault}
 use Rattle.tv_laurent.specs.declared.fault.SeriesFault.TheVariants.{Wide, Memory}
-use Rattle.tv_laurent.proofs.Exponents.{above_is}
-use Rattle.tv_laurent.proofs.Listed.{length-listed}
-use Rattle.tv_laurent.proofs.Padded.{value_scaled}
-use Rattle.tv_laurent.proofs.SeriesFrom.{terms-same, value_listed, value_series_sum, value_series_product}
+use Rattle.tv_terms.proofs.Exponents.{above_is}
+use Rattle.tv_terms.proofs.Listed.{length-listed}
+use Rattle.tv_terms.proofs.Padded.{value_scaled}
+use Rattle.tv_terms.proofs.SeriesFrom.{terms-same, value_listed, value_series_sum, value_series_product}
 
 from_padded : {A : Type 0} (r : Operations A) (m : ℤ) (t : Terms A) → from r m t ≡ padded r (above m t.low) (at r t.coefficients)
 unfolding from

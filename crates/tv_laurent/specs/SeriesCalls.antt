@@ -10,11 +10,11 @@
 --   scale_size r c f k              == size c * size (f k)
 --   ReachesAddUp r xs ys            == the reaches of each two coefficients add up to at most 2^60
 --   ReachesAddTo r c xs             == the reaches of c and of each coefficient add up to at most 2^60
-use Rattle.std.specs.Prelude.{◌≡◌, ◌⊎◌, ℕ, ◌+◌, ◌*◌, ◌<◌, ◌≤◌, ℤ, pos, ◌+ℤ◌, min, List, length, ⊤, ◌<ℤ◌, ◌≤ℤ◌}
+use Rattle.std.specs.Prelude.{◌≡◌, ℕ, ◌+◌, ◌*◌, ◌<◌, ◌≤◌, ℤ, pos, ◌+ℤ◌, min, List, length, ⊤, ◌<ℤ◌, ◌≤ℤ◌}
 use Rattle.std.specs.Int.{int_min}
 use Rattle.tv_ring.specs.Operations.{Operations, limit, reach_limit}
 use Rattle.tv_ring.specs.Sums.{at, size_convolution}
-use Rattle.tv_laurent.specs.Terms.{Terms, above, upto, from, known}
+use Rattle.tv_terms.specs.Terms.{Terms, above, upto, from, known}
 use Rattle.tv_laurent.specs.declared.coefficient.Coefficient.{Coefficient}
 use Rattle.tv_laurent.specs.declared.coefficient.Coefficient.TheVariants.{Beyond, Zero, Is}
 use Rattle.tv_laurent.specs.declared.fault.SeriesFault.{SeriesFault}

@@ -4,7 +4,6 @@
 
 mod coefficient;
 mod fault;
-pub mod laws;
 mod products;
 mod series;
 mod sums;
@@ -12,6 +11,7 @@ mod sums;
 pub use coefficient::Coefficient;
 pub use fault::SeriesFault;
 pub use series::Series;
+pub use tv_terms::laws;
 
 #[cfg(test)]
 mod tests;

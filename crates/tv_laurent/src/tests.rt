@@ -2,7 +2,7 @@
 // What the contracts say is not tried again.
 
 ghost use Rattle.std.specs.Prelude.{◌≤◌, length};
-ghost use Rattle.tv_laurent.specs.Terms.{IsWithin};
+ghost use Rattle.tv_terms.specs.Terms.{IsWithin};
 
 use crate::{Coefficient, Series, SeriesFault};
 use std::alloc::Global;

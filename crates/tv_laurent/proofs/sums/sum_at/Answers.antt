@@ -1,8 +1,7 @@
-use Rattle.std.proofs.Common.{◌≡◌, ◌∙◌, ap, arith}
 use Rattle.tv_ring.specs.Sums.{at}
 use Rattle.tv_ring.proofs.Rings.{nought-add}
-use Rattle.tv_laurent.specs.Terms.{padded, plus}
-use Rattle.tv_laurent.proofs.Padded.{plus_is, value_padded}
+use Rattle.tv_terms.specs.Terms.{padded}
+use Rattle.tv_terms.proofs.Padded.{plus_is, value_padded}
 use Rattle.tv_laurent.proofs.SeriesCalls.{sum_size_is}
 use Rattle.tv_laurent.proofs.sums.sum_at.Goals as goal
 

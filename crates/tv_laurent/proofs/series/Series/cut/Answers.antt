@@ -1,10 +1,10 @@
-use Rattle.std.proofs.Common.{◌≡◌, ◌∙◌, ℤ, pos, ◌+ℤ◌, arith, ap, take}
+use Rattle.std.proofs.Common.{◌∙◌, pos, ◌+ℤ◌, arith, ap, take}
 use Rattle.std.specs.Int.{int_min}
 use Rattle.std.proofs.lemmas.Int.{ints, clamps}
-use Rattle.tv_laurent.specs.Terms.{terms, above}
-use Rattle.tv_laurent.specs.Series.{series_cut}
-use Rattle.tv_laurent.proofs.Exponents.{above_is}
-use Rattle.tv_laurent.proofs.SeriesFrom.{terms-same}
+use Rattle.tv_terms.specs.Terms.{terms, above}
+use Rattle.tv_terms.specs.Series.{series_cut}
+use Rattle.tv_terms.proofs.Exponents.{above_is}
+use Rattle.tv_terms.proofs.SeriesFrom.{terms-same}
 use Rattle.tv_laurent.proofs.SeriesCalls.{same_series, cut_is_series}
 use Rattle.tv_laurent.proofs.series.Series.cut.Goals as goal
 

@@ -6,11 +6,11 @@ use Rattle.std.proofs.lemmas.Bool.{cases_lt}
 use Rattle.tv_ring.specs.Operations.{Operations, RingLaws}
 use Rattle.tv_ring.specs.Sums.{AreValues, at, convolution}
 use Rattle.tv_ring.proofs.Products.{convolution-same, value_convolution}
-use Rattle.tv_laurent.specs.Terms.{Terms, terms, above, padded, from, known, listed, plus}
-use Rattle.tv_laurent.specs.Series.{series_sum, series_product}
-use Rattle.tv_laurent.proofs.Exponents.{above_is, above_same, above_over, above-+ℤ}
-use Rattle.tv_laurent.proofs.Listed.{length-listed, at-listed, at_past, same_listed}
-use Rattle.tv_laurent.proofs.Padded.{padded_zero, padded-same, padded-padded, plus_is, value_padded, value_plus, padded-plus, padded-both}
+use Rattle.tv_terms.specs.Terms.{Terms, terms, above, padded, from, known, listed, plus}
+use Rattle.tv_terms.specs.Series.{series_sum, series_product}
+use Rattle.tv_terms.proofs.Exponents.{above_is, above_same, above_over, above-+ℤ}
+use Rattle.tv_terms.proofs.Listed.{length-listed, at-listed, at_past, same_listed}
+use Rattle.tv_terms.proofs.Padded.{padded_zero, padded-same, padded-padded, plus_is, value_padded, value_plus, padded-plus, padded-both}
 
 pub from_is : {A : Type 0} (r : Operations A) (m : ℤ) (t : Terms A) (k : ℕ) → from r m t k ≡ padded r (above m t.low) (at r t.coefficients) k
 unfolding from

@@ -10,7 +10,7 @@ use Rattle.std.specs.Prelude.{ℕ, ◌+◌, min, ℤ, pos, ◌+ℤ◌, List, len
 use Rattle.std.specs.Int.{int_min}
 use Rattle.tv_ring.specs.Operations.{Operations}
 use Rattle.tv_ring.specs.Sums.{AreValues, at, convolution}
-use Rattle.tv_laurent.specs.Terms.{Terms, terms, above, from, known, listed, plus, scaled, IsBounded}
+use Rattle.tv_terms.specs.Terms.{Terms, terms, above, from, known, listed, plus, scaled, IsBounded}
 
 abbrev pub series_sum : {A : Type 0} → Operations A → Terms A → Terms A → Terms A
 series_sum r a b = let m = int_min a.low b.low in terms m (listed (plus r (from r m a) (from r m b)) (min (known m a) (known m b)))

@@ -4,8 +4,8 @@
 use Rattle.std.specs.Prelude.{◌≡◌}
 use Rattle.tv_ring.specs.Operations.{Operations}
 use Rattle.tv_ring.specs.Sums.{AreValues, at}
-use Rattle.tv_laurent.specs.Terms.{Terms}
-use Rattle.tv_laurent.specs.Series.{series_sum, series_product}
+use Rattle.tv_terms.specs.Terms.{Terms}
+use Rattle.tv_terms.specs.Series.{series_sum, series_product}
 
 abbrev pub HasValues : {A : Type 0} → (A → Type 0) → Operations A → Terms A → Type 0
 HasValues IsValue r a = AreValues IsValue (at r a.coefficients)

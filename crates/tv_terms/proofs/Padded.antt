@@ -4,17 +4,17 @@ use Rattle.tv_ring.specs.Operations.{Operations, RingLaws}
 use Rattle.tv_ring.specs.Sums.{AreValues, convolution}
 use Rattle.tv_ring.proofs.Rings.{mul-nought, nought-mul, nought-add}
 use Rattle.tv_ring.proofs.Products.{convolution-first, convolution-front, convolution_comm, convolution-same, value_convolution}
-use Rattle.tv_laurent.specs.Terms.{padded, plus, scaled}
+use Rattle.tv_terms.specs.Terms.{padded, plus, scaled}
 
 pub padded_zero : {A : Type 0} (r : Operations A) (f : ℕ → A) (k : ℕ) → padded r 0 f k ≡ f k
 unfolding padded
 padded_zero r f k = refl
 
-padded_first : {A : Type 0} (r : Operations A) (d : ℕ) (f : ℕ → A) → padded r (suc d) f 0 ≡ r.nought
+pub padded_first : {A : Type 0} (r : Operations A) (d : ℕ) (f : ℕ → A) → padded r (suc d) f 0 ≡ r.nought
 unfolding padded
 padded_first r d f = refl
 
-padded_next : {A : Type 0} (r : Operations A) (d : ℕ) (f : ℕ → A) (k : ℕ) → padded r (suc d) f (suc k) ≡ padded r d f k
+pub padded_next : {A : Type 0} (r : Operations A) (d : ℕ) (f : ℕ → A) (k : ℕ) → padded r (suc d) f (suc k) ≡ padded r d f k
 unfolding padded
 padded_next r d f k = refl
 

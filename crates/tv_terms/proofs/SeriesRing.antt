@@ -5,11 +5,11 @@ use Rattle.std.proofs.lemmas.Int.{ints, clamps}
 use Rattle.tv_ring.specs.Operations.{Operations, RingLaws}
 use Rattle.tv_ring.specs.Sums.{AreValues, at, convolution}
 use Rattle.tv_ring.proofs.Products.{convolution-same, convolution_comm, convolution_assoc, convolution-add}
-use Rattle.tv_laurent.specs.Terms.{Terms, above, from, known, plus}
-use Rattle.tv_laurent.specs.Series.{series_sum, series_product}
-use Rattle.tv_laurent.specs.SeriesLaws.{SeriesLaws, HasValues}
-use Rattle.tv_laurent.proofs.Exponents.{above_is, above_same}
-use Rattle.tv_laurent.proofs.SeriesFrom.{same_terms, value_from, known-sum, from-sum, known-product_at, from-product_at, value_series_sum, value_series_product}
+use Rattle.tv_terms.specs.Terms.{Terms, above, from, known, plus}
+use Rattle.tv_terms.specs.Series.{series_sum, series_product}
+use Rattle.tv_terms.specs.SeriesLaws.{SeriesLaws, HasValues}
+use Rattle.tv_terms.proofs.Exponents.{above_is, above_same}
+use Rattle.tv_terms.proofs.SeriesFrom.{same_terms, value_from, known-sum, from-sum, known-product_at, from-product_at, value_series_sum, value_series_product}
 
 ≤ℤ_refl : (n : ℤ) → n ≤ℤ n
 ≤ℤ_refl n = omega (arith, ints)

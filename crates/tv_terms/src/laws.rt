@@ -1,7 +1,7 @@
 // The laws of series and polynomials, as calls that do nothing and whose contracts are the laws.
 // They speak of the same sums and products as the contracts of the calls do.
 
-ghost use Rattle.tv_laurent.specs.SeriesLaws.{SeriesLaws};
+ghost use Rattle.tv_terms.specs.SeriesLaws.{SeriesLaws};
 
 use tv_ring::Ring;
 

@@ -1,5 +1,0 @@
-use Rattle.tv_laurent.proofs.SeriesRing.{series_laws}
-use Rattle.tv_laurent.proofs.laws.series_are_a_ring.Goals as goal
-
-pub returns : goal.returns
-returns g c = record { laws = series_laws g.met.C.Ring.laws }
