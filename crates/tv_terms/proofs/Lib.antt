@@ -7,3 +7,5 @@ pub mod NormalForm
 pub mod PolyFrom
 pub mod PolyRing
 pub mod PolySizes
+pub mod PolyReach
+pub mod PolySizeLaws

@@ -25,7 +25,7 @@ module _ {A : Type 0} {IsValue : A → Type 0} {r : Operations A} (laws : RingLa
   pub one_is_poly : IsPoly IsValue r (poly_one r)
   one_is_poly = normal_is_poly laws (pos 0) (r.unit ∷ []) (value_single r.unit laws.value_unit)
 
-  one_low : pos 0 ≤ℤ (poly_one r).low
+  pub one_low : pos 0 ≤ℤ (poly_one r).low
   one_low = normal_low laws (pos 0) (pos 0) (r.unit ∷ []) (omega (arith, ints)) (omega (arith, ints))
 
   pub from-one : (k : ℕ) → from r (pos 0) (poly_one r) k ≡ at r (r.unit ∷ []) k

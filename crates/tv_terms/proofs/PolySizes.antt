@@ -23,7 +23,7 @@ sizes_is : {A : Type 0} (r : Operations A) (f : ℕ → A) (k : ℕ) → sizes r
 unfolding sizes
 sizes_is r f k = refl
 
-row_size-nil : {A : Type 0} (r : Operations A) → row_size r [] ≡ 0
+pub row_size-nil : {A : Type 0} (r : Operations A) → row_size r [] ≡ 0
 unfolding row_size
 row_size-nil r = refl
 
