@@ -2,7 +2,7 @@
 // It names no number: the contract of each call says which one is too wide there.
 
 ghost use Rattle.std.specs.Prelude.{◌≡◌};
-ghost use Rattle.tv_laurent.specs.Faults.{fault_of};
+ghost use Rattle.tv_laurent.specs.Faults.{fault_of, IsWithoutExponent};
 
 use std::alloc::{AllocError, AllocFailed};
 use thiserror::Error;
@@ -48,5 +48,15 @@ pub(crate) fn fault_at(fault: RingFault, n: i64) -> SeriesFault
     match fault {
         RingFault::Wide => SeriesFault::Wide(n),
         RingFault::Memory => SeriesFault::Memory,
+    }
+}
+
+/// The same fault, without its exponent.
+pub(crate) fn without_exponent(fault: SeriesFault) -> RingFault
+    ensures value { IsWithoutExponent fault result }
+{
+    match fault {
+        SeriesFault::Wide(_) => RingFault::Wide,
+        SeriesFault::Memory => RingFault::Memory,
     }
 }

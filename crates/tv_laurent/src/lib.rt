@@ -3,13 +3,17 @@
 #![tactic(auto)]
 
 mod coefficient;
+mod exponents;
 mod fault;
+mod normal;
+mod poly;
 mod products;
 mod series;
 mod sums;
 
 pub use coefficient::Coefficient;
 pub use fault::SeriesFault;
+pub use poly::LPoly;
 pub use series::Series;
 pub use tv_terms::laws;
 

@@ -8,6 +8,7 @@ ghost use Rattle.tv_terms.specs.Series.{series_sum, series_product, series_scale
 ghost use Rattle.tv_laurent.specs.SeriesCalls.{Tells, ReachesAddUp, ReachesAddTo, OnWide, IsSumWide, IsProductWide, IsMultipleWide};
 
 use crate::coefficient::Coefficient;
+use crate::exponents::places;
 use crate::fault::SeriesFault;
 use crate::products::{multiples, products};
 use crate::sums::sums;
@@ -41,17 +42,6 @@ fn all_known<C: Ring>(coefficients: &[C])
     for coefficient in coefficients {
         coefficient.known();
     }
-}
-
-// How many exponents there are from one up to another.
-pub(crate) fn places(from: i64, to: i64) -> usize
-    requires from { IsWithin from }
-    requires to { IsWithin to }
-    requires order { from ≤ℤ to }
-    ensures value { result ≡ above from to }
-    ensures small { result ≤ 2 ^ 61 }
-{
-    (to - from) as usize
 }
 
 impl<C: Ring> Series<C> {

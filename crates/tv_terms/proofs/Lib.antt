@@ -9,3 +9,4 @@ pub mod PolyRing
 pub mod PolySizes
 pub mod PolyReach
 pub mod PolySizeLaws
+pub mod PolyKept

@@ -1,6 +1,6 @@
 -- The list of the first terms of a sequence.
-use Rattle.std.proofs.Common.{◌≡◌, ℕ, zero, suc, ◌+◌, ◌<◌, ◌≤◌, List, [], ◌∷◌, ◌++◌, length, take, get_or, refl, sym, ◌∙◌, ap, arith, inl, inr}
-use Rattle.std.proofs.lemmas.List.{get_or_read, get_or_past, get_or-take, length-take}
+use Rattle.std.proofs.Common.{◌≡◌, ℕ, zero, suc, ◌+◌, ◌-◌, ◌<◌, ◌≤◌, List, [], ◌∷◌, ◌++◌, length, take, drop, get_or, refl, sym, ◌∙◌, ap, arith, inl, inr}
+use Rattle.std.proofs.lemmas.List.{get_or_read, get_or_past, get_or-take, get_or-drop, get_or_append_left, length-take, length-drop, length-append}
 use Rattle.std.proofs.lemmas.Bool.{cases_lt}
 use Rattle.std.proofs.lemmas.List.FromFn.{length-map-range_with_len, get_or-map-range_with_len, map-range_with_len_more, take-map-range_with_len, fill_by_all}
 use Rattle.tv_ring.specs.Operations.{Operations, RingLaws}
@@ -69,3 +69,17 @@ read_at r xs i k x read e within = let inside : i < length xs = omega arith in a
 -- a list to which the next term is pushed
 pub listed_push : {A : Type 0} (f : ℕ → A) (n : ℕ) (old new : List A) (x : A) → old ≡ listed f n → new ≡ old ++ x ∷ [] → x ≡ f n → new ≡ listed f (n + 1)
 listed_push f n old new x before pushed e = pushed ∙ rw (before, e) (sym (listed-more f n))
+
+-- what is left between front and end
+pub length-between : {A : Type 0} (xs ys zs us : List A) (front end : ℕ) → end ≤ length xs → ys ≡ take end xs → zs ≡ drop front ys ++ take front ys → us ≡ take (end - front) zs → length us ≡ end - front
+length-between xs ys zs us front end h ey ez eu =
+    let a = ap length ey in let b = ap length ez in let c = ap length eu in
+    omega (arith, length-take end xs, length-append (drop front ys) (take front ys), length-drop front ys, length-take front ys, length-take (end - front) zs, a, b, c)
+
+pub at-between : {A : Type 0} (r : Operations A) (xs ys zs us : List A) (front end i : ℕ) → end ≤ length xs → ys ≡ take end xs → zs ≡ drop front ys ++ take front ys → us ≡ take (end - front) zs → i < end - front → at r us i ≡ at r xs (front + i)
+unfolding at
+at-between r xs ys zs us front end i h ey ez eu within =
+    let d = r.nought in let a = ap length ey in
+    let inside : i < length (drop front ys) = omega (arith, length-take end xs, length-drop front ys, a) in
+    ap (λ (l : List _). get_or l i d) eu ∙ get_or-take (end - front) zs i d within ∙ ap (λ (l : List _). get_or l i d) ez
+    ∙ get_or_append_left (drop front ys) (take front ys) d i inside ∙ get_or-drop front ys i d ∙ ap (λ (l : List _). get_or l (front + i) d) ey ∙ get_or-take end xs (front + i) d (omega arith)

@@ -18,7 +18,7 @@ use Rattle.tv_terms.proofs.PolyFrom.{sum_is_poly, sum_low, from-poly_sum, produc
 module _ {A : Type 0} {IsValue : A → Type 0} {r : Operations A} (laws : RingLaws IsValue r) where
   -- ---- one
 
-  value_single : (x : A) → IsValue x → AreValues IsValue (at r (x ∷ []))
+  pub value_single : (x : A) → IsValue x → AreValues IsValue (at r (x ∷ []))
   value_single x v zero = rw (at-first r x []) v
   value_single x v (suc k) = rw (at-next r x [] k, at-nil r k) laws.value_nought
 

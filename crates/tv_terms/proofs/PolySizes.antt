@@ -132,6 +132,11 @@ module _ {A : Type 0} {IsValue : A → Type 0} {r : Operations A} (laws : RingLa
   pub size-from : (m : ℤ) (p : Terms A) (k : ℕ) → r.size (from r m p k) ≤ row_size r p.coefficients
   size-from m p k = let one = total-single (sizes r (from r m p)) k in let all = total-from m p (suc k) in let e = sizes_is r (from r m p) k in omega arith
 
+  pub size-padded : (d : ℕ) (xs : List A) (k : ℕ) → r.size (padded r d (at r xs) k) ≤ row_size r xs
+  size-padded d xs k =
+      let f = padded r d (at r xs) in
+      let one = total-single (sizes r f) k in let e = sizes_is r f k in let all = total-padded d (at r xs) (suc k) in let whole = total-at xs (suc k) in omega arith
+
   -- nor are the terms of a coefficient of a product
   pub size_convolution-row : (xs ys : List A) (k : ℕ) → size_convolution r (at r xs) (at r ys) k ≤ row_size r xs * row_size r ys
   size_convolution-row xs ys k =

@@ -14,12 +14,13 @@
 --   reach_at r low f k     == the absolute exponent low + k and the reach of the coefficient there, 0 where that is nought
 --   greatest_below f n     == the greatest of f 0, f 1, .., f (n - 1), and 0 of none
 --   poly_reach r p         == the greatest of these, 0 for zero
+--   IsKept IsValue r p     == p is in normal form, and its reach is at most 2^60
 --   polynomials r          == the operations on polynomials over r
-use Rattle.std.specs.Prelude.{◌≡◌, ℕ, zero, suc, ◌+◌, ◌-◌, ◌<◌, max, ℤ, pos, ◌+ℤ◌, unsigned_abs, Bool, true, false, if◌then◌else◌, List, [], ◌∷◌, length}
+use Rattle.std.specs.Prelude.{◌≡◌, ℕ, zero, suc, ◌+◌, ◌-◌, ◌<◌, ◌≤◌, max, ℤ, pos, ◌+ℤ◌, unsigned_abs, Bool, true, false, if◌then◌else◌, List, [], ◌∷◌, length}
 use Rattle.std.specs.Int.{int_min}
-use Rattle.tv_ring.specs.Operations.{Operations}
+use Rattle.tv_ring.specs.Operations.{Operations, reach_limit}
 use Rattle.tv_ring.specs.Sums.{AreValues, at, convolution}
-use Rattle.tv_terms.specs.Terms.{Terms, terms, from, known, listed, plus}
+use Rattle.tv_terms.specs.Terms.{Terms, terms, from, known, listed, plus, IsBounded}
 
 abbrev pub onto : {A : Type 0} → Operations A → A → List A → List A
 onto r x [] = if r.is_nought x then [] else x ∷ []
@@ -86,3 +87,9 @@ polynomials r = record {
   size = λ p. row_size r p.coefficients;
   reach = poly_reach r;
 }
+
+-- what is kept of a polynomial: its normal form, and a reach and exponents of at most 2^60
+pub record IsKept {A : Type 0} (IsValue : A → Type 0) (r : Operations A) (p : Terms A) : Type 0 where
+  pub normal_form : IsPoly IsValue r p
+  pub reach : poly_reach r p ≤ reach_limit
+  pub bounded : IsBounded p
