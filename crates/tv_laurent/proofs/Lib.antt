@@ -2,3 +2,4 @@ pub mod SeriesCalls
 pub mod Convolved
 pub mod Wide
 pub mod SeriesResults
+pub mod PolyResults

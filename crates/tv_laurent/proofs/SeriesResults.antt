@@ -14,7 +14,7 @@ use Rattle.tv_terms.proofs.Listed.{length-listed}
 use Rattle.tv_terms.proofs.Padded.{value_scaled}
 use Rattle.tv_terms.proofs.SeriesFrom.{terms-same, value_listed, value_series_sum, value_series_product}
 
-from_padded : {A : Type 0} (r : Operations A) (m : ℤ) (t : Terms A) → from r m t ≡ padded r (above m t.low) (at r t.coefficients)
+pub from_padded : {A : Type 0} (r : Operations A) (m : ℤ) (t : Terms A) → from r m t ≡ padded r (above m t.low) (at r t.coefficients)
 unfolding from
 from_padded r m t = refl
 

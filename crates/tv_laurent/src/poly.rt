@@ -113,7 +113,7 @@ fn reach_of<C: Ring>(low: i64, row: &[C]) -> u64
     requires outward { (k : ℕ) → k < length row.now → outward C.ring low (at C.ring row.now) k ≤ reach_limit }
     ensures value { result ≡ greatest_below (outward C.ring low (at C.ring row.now)) (length row.now) }
 {
-    let mut greatest = 0;
+    let mut greatest: u64 = 0;
     for i in 0..row.len() {
         greatest = greatest.max((low + i as i64).unsigned_abs() + row[i].reach());
     }

@@ -21,11 +21,11 @@ use Rattle.tv_terms.proofs.PolyRing.{poly_laws, one_is_poly, one_low, from-one}
 abbrev pub Reaches : {A : Type 0} → Operations A → ℤ → A → ℕ → Type 0
 Reaches r e x bound = r.is_nought x ≡ false → unsigned_abs e + r.reach x ≤ bound
 
-greatest-none : (f : ℕ → ℕ) → greatest_below f 0 ≡ 0
+pub greatest-none : (f : ℕ → ℕ) → greatest_below f 0 ≡ 0
 unfolding greatest_below
 greatest-none f = refl
 
-greatest-more : (f : ℕ → ℕ) (n : ℕ) → greatest_below f (suc n) ≡ max (greatest_below f n) (f n)
+pub greatest-more : (f : ℕ → ℕ) (n : ℕ) → greatest_below f (suc n) ≡ max (greatest_below f n) (f n)
 unfolding greatest_below
 greatest-more f n = refl
 
