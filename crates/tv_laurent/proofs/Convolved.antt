@@ -34,8 +34,8 @@ module _ {A : Type 0} {IsValue : A → Type 0} {r : Operations A} (laws : RingLa
   summed_all i total summed within last =
       let d = suc k - i in let z : suc k ≡ i + d = omega arith in
       let rest = sum-more_nought (term r (at r xs) (at r ys) k) i d (value_term laws (at r xs) (at r ys) k v w) (λ j above below.
-          let past : length xs ≤ j = omega arith in let e = at_past r xs j past in
-          rw (term_is r (at r xs) (at r ys) k j, e) (nought-mul laws (at r ys (k - j)) (w (k - j)))) in
+      let past : length xs ≤ j = omega arith in let e = at_past r xs j past in
+      rw (term_is r (at r xs) (at r ys) k j, e) (nought-mul laws (at r ys (k - j)) (w (k - j)))) in
       rw (convolution_is r (at r xs) (at r ys) k, z, rest) summed
 
   -- a product that is too wide

@@ -42,28 +42,28 @@ module _ {A : Type 0} {IsValue : A → Type 0} {r : Operations A} (laws : RingLa
       record { same = same; values = rw ei v; reach = rw same most }
 
   pub sum_row : (a b : Terms A) (low : ℤ) (d e count : ℕ) (xs ys items : List A) → IsKept IsValue r a → IsKept IsValue r b → xs ≡ a.coefficients → ys ≡ b.coefficients → low ≡ int_min a.low b.low → d ≡ above (int_min a.low b.low) a.low → e ≡ above (int_min a.low b.low) b.low → count ≡ max (d + length xs) (e + length ys)
-    → items ≡ listed (plus r (padded r d (at r xs)) (padded r e (at r ys))) count → IsRowOf IsValue r low items (poly_sum r a b)
+      → items ≡ listed (plus r (padded r d (at r xs)) (padded r e (at r ys))) count → IsRowOf IsValue r low items (poly_sum r a b)
   sum_row a b low d e count xs ys items ka kb ex ey el ed ee ec ei =
       let m = int_min a.low b.low in let n = max (known m a) (known m b) in
       let c' : count ≡ n = ec ∙ rw (ed, ee, ex, ey) refl in
       let most : poly_reach r (poly_sum r a b) ≤ reach_limit = let s = reach-poly_sum laws size_laws a b ka.normal_form kb.normal_form in let p = ka.reach in let q = kb.reach in omega arith in
       row_of low m items (listed (plus r (from r m a) (from r m b)) n) (poly_sum r a b) el (ei ∙ rw (ex, ey, ed, ee, c', from_padded r m a, from_padded r m b) refl) refl
-        (value_sum_row laws m a b n ka.normal_form.values kb.normal_form.values) most
+      (value_sum_row laws m a b n ka.normal_form.values kb.normal_form.values) most
 
   pub product_row : (a b : Terms A) (low : ℤ) (count : ℕ) (xs ys items : List A) → IsKept IsValue r a → IsKept IsValue r b → poly_reach r a + poly_reach r b ≤ reach_limit → xs ≡ a.coefficients → ys ≡ b.coefficients → low ≡ a.low +ℤ b.low → count ≡ length xs + length ys - 1
-    → items ≡ listed (convolution r (at r xs) (at r ys)) count → IsRowOf IsValue r low items (poly_product r a b)
+      → items ≡ listed (convolution r (at r xs) (at r ys)) count → IsRowOf IsValue r low items (poly_product r a b)
   product_row a b low count xs ys items ka kb add ex ey el ec ei =
       let n = length a.coefficients + length b.coefficients - 1 in
       let c' : count ≡ n = ec ∙ rw (ex, ey) refl in
       let most : poly_reach r (poly_product r a b) ≤ reach_limit = let s = reach-poly_product laws size_laws a b ka.normal_form kb.normal_form in omega arith in
       row_of low (a.low +ℤ b.low) items (listed (convolution r (at r a.coefficients) (at r b.coefficients)) n) (poly_product r a b) el (ei ∙ rw (c', ex, ey) refl) refl
-        (value_product_row laws a b n ka.normal_form.values kb.normal_form.values) most
+      (value_product_row laws a b n ka.normal_form.values kb.normal_form.values) most
 
   pub negative_row : (a : Terms A) (low : ℤ) (xs items : List A) → IsKept IsValue r a → xs ≡ a.coefficients → low ≡ a.low → items ≡ listed (negatives r (at r xs)) (length xs) → IsRowOf IsValue r low items (poly_negative r a)
   negative_row a low xs items ka ex el ei =
       let most : poly_reach r (poly_negative r a) ≤ reach_limit = let s = reach-poly_negative laws size_laws a ka.normal_form in let p = ka.reach in omega arith in
       row_of low a.low items (listed (negatives r (at r a.coefficients)) (length a.coefficients)) (poly_negative r a) el (ei ∙ rw ex refl) refl
-        (value_listed laws (negatives r (at r a.coefficients)) (length a.coefficients) (value_negatives laws (at r a.coefficients) ka.normal_form.values)) most
+      (value_listed laws (negatives r (at r a.coefficients)) (length a.coefficients) (value_negatives laws (at r a.coefficients) ka.normal_form.values)) most
 
   -- ---- what the calls ask
 
@@ -95,15 +95,16 @@ module _ {A : Type 0} {IsValue : A → Type 0} {r : Operations A} (laws : RingLa
   pub something_before : (xs row row' : List A) (front end : ℕ) → row ≡ xs → row' ≡ xs → front < length xs → (front < length row → at r row front ≡ r.nought → ⊥) → ((i : ℕ) → end ≤ i → at r row' i ≡ r.nought) → front < end
   something_before xs row row' front end er er' inside first after = elim (cases_lt front end) as (λ _. front < end) [
     | inl h ↦ h
-    | inr h ↦ let n = ap length er in absurd (first (omega arith) (rw er (let z = after front h in rw er' at z))) ]
+    | inr h ↦ let n = ap length er in absurd (first (omega arith) (rw er (let z = after front h in rw er' at z)))
+  ]
 
   pub what_is_left : (low l : ℤ) (xs row row' ys zs us : List A) (front end : ℕ) → row ≡ xs → row' ≡ xs → l ≡ low +ℤ pos front → AreValues IsValue (at r xs) → front < length xs → end ≤ length row'
-    → ((i : ℕ) → i < front → at r row i ≡ r.nought) → (front < length row → at r row front ≡ r.nought → ⊥) → ((i : ℕ) → end ≤ i → at r row' i ≡ r.nought) → (0 < end → at r row' (end - 1) ≡ r.nought → ⊥)
-    → ys ≡ take end xs → zs ≡ drop front ys ++ take front ys → us ≡ take (end - front) zs → terms l us ≡ normal r low xs
+      → ((i : ℕ) → i < front → at r row i ≡ r.nought) → (front < length row → at r row front ≡ r.nought → ⊥) → ((i : ℕ) → end ≤ i → at r row' i ≡ r.nought) → (0 < end → at r row' (end - 1) ≡ r.nought → ⊥)
+      → ys ≡ take end xs → zs ≡ drop front ys ++ take front ys → us ≡ take (end - front) zs → terms l us ≡ normal r low xs
   what_is_left low l xs row row' ys zs us front end er er' el v inside within before first after last ey ez eu =
       let n = ap length er in let n' = ap length er' in let h : end ≤ length xs = omega arith in
       ap (λ m. terms m us) el ∙ normal_between laws size_laws low xs us front end v inside h (λ i b. rw (← er) (before i b)) (λ i b. rw (← er') (after i b)) (λ z. first (omega arith) (rw er z)) (λ b z. last b (rw er' z))
-        (length-between xs ys zs us front end h ey ez eu) (λ i b. at-between r xs ys zs us front end i h ey ez eu b)
+      (length-between xs ys zs us front end h ey ez eu) (λ i b. at-between r xs ys zs us front end i h ey ez eu b)
 
 pub outward_is : {A : Type 0} (r : Operations A) (low : ℤ) (f : ℕ → A) (k : ℕ) → outward r low f k ≡ unsigned_abs (low +ℤ pos k) + r.reach (f k)
 unfolding outward
@@ -115,13 +116,13 @@ length_is f n items e = ap length e ∙ length-listed f n
 module _ {A : Type 0} {IsValue : A → Type 0} {r : Operations A} (laws : RingLaws IsValue r) (size_laws : SizeLaws IsValue r) where
   -- a sum that is too wide, as a ring's fault
   pub sum_fault : {T : Type 0} (a b : Terms A) (low : ℤ) (d e count : ℕ) (xs ys : List A) (fault : SeriesFault) (result : RingFault) → xs ≡ a.coefficients → ys ≡ b.coefficients → IsWithoutExponent fault result
-    → OnWide fault (λ n. IsWideAt low n count (sum_size r (padded r d (at r xs)) (padded r e (at r ys)))) → IsErrOf {T = T} (Err result) ring.Wide → limit < row_size r a.coefficients + row_size r b.coefficients
+      → OnWide fault (λ n. IsWideAt low n count (sum_size r (padded r d (at r xs)) (padded r e (at r ys)))) → IsErrOf {T = T} (Err result) ring.Wide → limit < row_size r a.coefficients + row_size r b.coefficients
   sum_fault a b low d e count xs ys fault result ex ey without wide h =
       let is : result ≡ ring.Wide = cc in
       rw (← ex, ← ey) (wide_without fault result without wide (λ n w. sum_sizes_wide laws size_laws d e w.place xs ys w.wide) is)
 
   pub product_fault : {T : Type 0} (a b : Terms A) (low : ℤ) (count : ℕ) (xs ys : List A) (fault : SeriesFault) (result : RingFault) → xs ≡ a.coefficients → ys ≡ b.coefficients → IsWithoutExponent fault result
-    → OnWide fault (λ n. IsWideAt low n count (size_convolution r (at r xs) (at r ys))) → IsErrOf {T = T} (Err result) ring.Wide → limit < row_size r a.coefficients * row_size r b.coefficients
+      → OnWide fault (λ n. IsWideAt low n count (size_convolution r (at r xs) (at r ys))) → IsErrOf {T = T} (Err result) ring.Wide → limit < row_size r a.coefficients * row_size r b.coefficients
   product_fault a b low count xs ys fault result ex ey without wide h =
       let is : result ≡ ring.Wide = cc in
       rw (← ex, ← ey) (wide_without fault result without wide (λ n w. product_sizes_wide laws size_laws w.place xs ys w.wide) is)

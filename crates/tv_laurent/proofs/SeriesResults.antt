@@ -20,14 +20,14 @@ from_padded r m t = refl
 
 -- from the places before each row, the common low and the count
 pub sum_result : {A : Type 0} (r : Operations A) (a b : Terms A) (low : ℤ) (d e count : ℕ) (xs ys items : List A) → xs ≡ a.coefficients → ys ≡ b.coefficients → low ≡ int_min a.low b.low → d ≡ above (int_min a.low b.low) a.low → e ≡ above (int_min a.low b.low) b.low → count ≡ min (d + length xs) (e + length ys)
-  → items ≡ listed (plus r (padded r d (at r xs)) (padded r e (at r ys))) count → terms low items ≡ series_sum r a b
+    → items ≡ listed (plus r (padded r d (at r xs)) (padded r e (at r ys))) count → terms low items ≡ series_sum r a b
 sum_result r a b low d e count xs ys items ex ey el ed ee ec ei =
     let m = int_min a.low b.low in
     let c' : count ≡ min (known m a) (known m b) = ec ∙ rw (ed, ee, ex, ey) refl in
     terms-same low m items _ el (ei ∙ rw (ex, ey, ed, ee, c', from_padded r m a, from_padded r m b) refl)
 
 pub sum_wide_result : {A : Type 0} (r : Operations A) (a b : Terms A) (low : ℤ) (d e count : ℕ) (xs ys : List A) (fault : SeriesFault) → xs ≡ a.coefficients → ys ≡ b.coefficients → low ≡ int_min a.low b.low → d ≡ above (int_min a.low b.low) a.low → e ≡ above (int_min a.low b.low) b.low → count ≡ min (d + length xs) (e + length ys)
-  → OnWide fault (λ n. IsWideAt low n count (sum_size r (padded r d (at r xs)) (padded r e (at r ys)))) → OnWide fault (IsSumWide r a b)
+    → OnWide fault (λ n. IsWideAt low n count (sum_size r (padded r d (at r xs)) (padded r e (at r ys)))) → OnWide fault (IsSumWide r a b)
 sum_wide_result r a b low d e count xs ys Memory ex ey el ed ee ec wide = tt
 sum_wide_result r a b low d e count xs ys (Wide n) ex ey el ed ee ec wide =
     let m = int_min a.low b.low in
@@ -35,11 +35,11 @@ sum_wide_result r a b low d e count xs ys (Wide n) ex ey el ed ee ec wide =
     let w = rw (el, c', ed, ee, ex, ey) at wide in rw (from_padded r m a, from_padded r m b) w
 
 pub product_result : {A : Type 0} (r : Operations A) (a b : Terms A) (low : ℤ) (count : ℕ) (xs ys items : List A) → xs ≡ a.coefficients → ys ≡ b.coefficients → low ≡ a.low +ℤ b.low → count ≡ min (length xs) (length ys)
-  → items ≡ listed (convolution r (at r xs) (at r ys)) count → terms low items ≡ series_product r a b
+    → items ≡ listed (convolution r (at r xs) (at r ys)) count → terms low items ≡ series_product r a b
 product_result r a b low count xs ys items ex ey el ec ei = terms-same low (a.low +ℤ b.low) items _ el (ei ∙ rw (ec, ex, ey) refl)
 
 pub product_wide_result : {A : Type 0} (r : Operations A) (a b : Terms A) (low : ℤ) (count : ℕ) (xs ys : List A) (fault : SeriesFault) → xs ≡ a.coefficients → ys ≡ b.coefficients → low ≡ a.low +ℤ b.low → count ≡ min (length xs) (length ys)
-  → OnWide fault (λ n. IsWideAt low n count (size_convolution r (at r xs) (at r ys))) → OnWide fault (IsProductWide r a b)
+    → OnWide fault (λ n. IsWideAt low n count (size_convolution r (at r xs) (at r ys))) → OnWide fault (IsProductWide r a b)
 product_wide_result r a b low count xs ys Memory ex ey el ec wide = tt
 product_wide_result r a b low count xs ys (Wide n) ex ey el ec wide = rw (← ex, ← ey, ← el, ← ec) wide
 

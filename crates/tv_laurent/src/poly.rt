@@ -185,7 +185,15 @@ impl<C: Ring> Ring for LPoly<C> {
         let before_other = places(low, other.low);
         let count = (before + self.coefficients.len()).max(before_other + other.coefficients.len());
         let alloc = *self.coefficients.allocator();
-        match sums(alloc, low, count, &self.coefficients, before, &other.coefficients, before_other) {
+        match sums(
+            alloc,
+            low,
+            count,
+            &self.coefficients,
+            before,
+            &other.coefficients,
+            before_other,
+        ) {
             Ok(coefficients) => normal(alloc, low, coefficients),
             Err(fault) => Err(without_exponent(fault)),
         }

@@ -28,7 +28,13 @@ fn product_at<C: Ring>(alloc: Global, a: &[C], b: &[C], place: usize) -> Result<
 }
 
 /// The coefficients of the product at the first `count` places, the first at the exponent `low`.
-pub fn products<C: Ring>(alloc: Global, low: i64, count: usize, a: &[C], b: &[C]) -> Result<Vec<C>, SeriesFault>
+pub fn products<C: Ring>(
+    alloc: Global,
+    low: i64,
+    count: usize,
+    a: &[C],
+    b: &[C],
+) -> Result<Vec<C>, SeriesFault>
     requires a { AreValues C.IsValue (at C.ring a.now) }
     requires b { AreValues C.IsValue (at C.ring b.now) }
     requires reaches { ReachesAddUp C.ring a.now b.now }
@@ -48,7 +54,12 @@ pub fn products<C: Ring>(alloc: Global, low: i64, count: usize, a: &[C], b: &[C]
 }
 
 /// Each coefficient times a factor, the first at the exponent `low`.
-pub fn multiples<C: Ring>(alloc: Global, low: i64, factor: &C, a: &[C]) -> Result<Vec<C>, SeriesFault>
+pub fn multiples<C: Ring>(
+    alloc: Global,
+    low: i64,
+    factor: &C,
+    a: &[C],
+) -> Result<Vec<C>, SeriesFault>
     requires reaches { ReachesAddTo C.ring factor.now a.now }
     requires low { IsWithin low }
     requires count { length a.now ≤ 2 ^ 62 }

@@ -93,7 +93,15 @@ impl<C: Ring> Series<C> {
         let before_other = places(low, other.low);
         let count = (before + self.coefficients.len()).min(before_other + other.coefficients.len());
         let alloc = *self.coefficients.allocator();
-        let coefficients = sums(alloc, low, count, &self.coefficients, before, &other.coefficients, before_other)?;
+        let coefficients = sums(
+            alloc,
+            low,
+            count,
+            &self.coefficients,
+            before,
+            &other.coefficients,
+            before_other,
+        )?;
         Ok(Series { low, coefficients })
     }
 

@@ -24,7 +24,14 @@ fn placed<C: Ring>(row: &[C], before: usize, place: usize) -> Option<&C>
     }
 }
 
-fn sum_at<C: Ring>(alloc: Global, a: &[C], before_a: usize, b: &[C], before_b: usize, place: usize) -> Result<C, RingFault>
+fn sum_at<C: Ring>(
+    alloc: Global,
+    a: &[C],
+    before_a: usize,
+    b: &[C],
+    before_b: usize,
+    place: usize,
+) -> Result<C, RingFault>
     requires a { AreValues C.IsValue (at C.ring a.now) }
     requires b { AreValues C.IsValue (at C.ring b.now) }
     ensures value { IfOk result (λ x. x ≡ plus C.ring (padded C.ring before_a (at C.ring a.now)) (padded C.ring before_b (at C.ring b.now)) place) }
@@ -39,7 +46,15 @@ fn sum_at<C: Ring>(alloc: Global, a: &[C], before_a: usize, b: &[C], before_b: u
 }
 
 /// The sums of the coefficients at the first `count` places, the first at the exponent `low`.
-pub fn sums<C: Ring>(alloc: Global, low: i64, count: usize, a: &[C], before_a: usize, b: &[C], before_b: usize) -> Result<Vec<C>, SeriesFault>
+pub fn sums<C: Ring>(
+    alloc: Global,
+    low: i64,
+    count: usize,
+    a: &[C],
+    before_a: usize,
+    b: &[C],
+    before_b: usize,
+) -> Result<Vec<C>, SeriesFault>
     requires a { AreValues C.IsValue (at C.ring a.now) }
     requires b { AreValues C.IsValue (at C.ring b.now) }
     requires low { IsWithin low }

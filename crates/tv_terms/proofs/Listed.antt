@@ -54,13 +54,15 @@ same_listed r xs ys e each = listed_all r (at r ys) xs (length ys) e each ∙ sy
 pub values_all : {A : Type 0} {IsValue : A → Type 0} {r : Operations A} (laws : RingLaws IsValue r) (xs : List A) → ((k : ℕ) → k < length xs → IsValue (at r xs k)) → AreValues IsValue (at r xs)
 values_all {IsValue} {r} laws xs each k = elim (cases_lt k (length xs)) as (λ _. IsValue (at r xs k)) [
   | inl h ↦ each k h
-  | inr h ↦ rw (at_past r xs k h) laws.value_nought ]
+  | inr h ↦ rw (at_past r xs k h) laws.value_nought
+]
 
 -- one more element is a value
 pub values_more : {A : Type 0} {IsValue : A → Type 0} {r : Operations A} (laws : RingLaws IsValue r) (xs : List A) (i : ℕ) (x : A) → x ≡ get_or xs i x → i < length xs → ((k : ℕ) → k < i → IsValue (at r xs k)) → IsValue x → (k : ℕ) → k < i + 1 → IsValue (at r xs k)
 values_more {IsValue} {r} laws xs i x read within below v k h = elim (cases_lt k i) as (λ _. IsValue (at r xs k)) [
   | inl less ↦ below k less
-  | inr not_less ↦ let e : k ≡ i = omega arith in rw (e, ← at_read r xs i x read within) v ]
+  | inr not_less ↦ let e : k ≡ i = omega arith in rw (e, ← at_read r xs i x read within) v
+]
 
 -- the same, where the place is told by another number
 pub read_at : {A : Type 0} (r : Operations A) (xs : List A) (i k : ℕ) (x : A) → x ≡ get_or xs i x → i ≡ k → k < length xs → x ≡ at r xs k

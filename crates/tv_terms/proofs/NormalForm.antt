@@ -126,13 +126,15 @@ module _ {A : Type 0} {IsValue : A → Type 0} {r : Operations A} (laws : RingLa
   pub from_nil : (m low : ℤ) (k : ℕ) → from r m (terms low []) k ≡ r.nought
   from_nil m low k = from_is r m (terms low []) k ∙ elim (cases_lt k (above m low)) as (λ _. padded r (above m low) (at r []) k ≡ r.nought) [
     | inl h ↦ padded_before r (above m low) (at r []) k h
-    | inr h ↦ padded_after r (above m low) (at r []) k h ∙ at-nil r (k - above m low) ]
+    | inr h ↦ padded_after r (above m low) (at r []) k h ∙ at-nil r (k - above m low)
+  ]
 
   padded_cons : (d : ℕ) (x : A) (xs : List A) (k : ℕ) → x ≡ r.nought → padded r (suc d) (at r xs) k ≡ padded r d (at r (x ∷ xs)) k
   padded_cons d x xs k z = elim (cases_order k d) as (λ _. padded r (suc d) (at r xs) k ≡ padded r d (at r (x ∷ xs)) k) [
     | inl e ↦ let n : k - d ≡ 0 = omega arith in padded_before r (suc d) (at r xs) k (omega arith) ∙ sym (padded_after r d (at r (x ∷ xs)) k (omega arith) ∙ rw n (at-first r x xs ∙ z))
     | inr (inl h) ↦ padded_before r (suc d) (at r xs) k (omega arith) ∙ sym (padded_before r d (at r (x ∷ xs)) k h)
-    | inr (inr h) ↦ let n : k - d ≡ suc (k - suc d) = omega arith in padded_after r (suc d) (at r xs) k (omega arith) ∙ sym (padded_after r d (at r (x ∷ xs)) k (omega arith) ∙ rw n (at-next r x xs (k - suc d))) ]
+    | inr (inr h) ↦ let n : k - d ≡ suc (k - suc d) = omega arith in padded_after r (suc d) (at r xs) k (omega arith) ∙ sym (padded_after r d (at r (x ∷ xs)) k (omega arith) ∙ rw n (at-next r x xs (k - suc d)))
+  ]
 
   from_cons : (m low : ℤ) (x : A) (xs : List A) (k : ℕ) → m ≤ℤ low → x ≡ r.nought → from r m (terms (low +ℤ pos 1) xs) k ≡ from r m (terms low (x ∷ xs)) k
   from_cons m low x xs k h z =
@@ -145,8 +147,8 @@ module _ {A : Type 0} {IsValue : A → Type 0} {r : Operations A} (laws : RingLa
   from-normal m low (x ∷ xs) k h v = bool_cases (r.is_nought x)
       (λ e. rw (normal-nought r low x xs e) (from-normal m (low +ℤ pos 1) xs k (omega (arith, ints)) (tails x xs v) ∙ from_cons m low x xs k h (laws.only_nought x (heads x xs v) e)))
       (λ e. rw (normal-here r low x xs e) (from_is r m (terms low (x ∷ trimmed r xs)) k
-        ∙ padded-same r (above m low) (at r (x ∷ trimmed r xs)) (at r (x ∷ xs)) k (λ i _. at_cons x (trimmed r xs) xs i (λ j. at-trimmed xs j (tails x xs v)))
-        ∙ sym (from_is r m (terms low (x ∷ xs)) k)))
+      ∙ padded-same r (above m low) (at r (x ∷ trimmed r xs)) (at r (x ∷ xs)) k (λ i _. at_cons x (trimmed r xs) xs i (λ j. at-trimmed xs j (tails x xs v)))
+      ∙ sym (from_is r m (terms low (x ∷ xs)) k)))
 
   -- it begins at the row's low, above it, or at 0
   pub normal_low : (m low : ℤ) (xs : List A) → m ≤ℤ low → m ≤ℤ pos 0 → m ≤ℤ (normal r low xs).low
@@ -174,14 +176,17 @@ module _ {A : Type 0} {IsValue : A → Type 0} {r : Operations A} (laws : RingLa
       let d = above m q.low in let n : d + 0 ≡ d = omega arith in
       let here : from r m p d ≡ at r q.coefficients 0 = e d ∙ rw (← n) (from_place m q 0) in
       (at_least here, at_all here) where
-    at_least : from r m p (above m q.low) ≡ at r q.coefficients 0 → above m p.low ≤ above m q.low
-    at_least here = elim (cases_lt (above m q.low) (above m p.low)) as (λ _. above m p.low ≤ above m q.low) [
-      | inl less ↦ absurd (not_nought (at r q.coefficients 0) (sym here ∙ from_below m p (above m q.low) less) (nq.first h))
-      | inr fine ↦ fine ]
-    at_all : from r m p (above m q.low) ≡ at r q.coefficients 0 → 0 < length p.coefficients
-    at_all here = elim (cases_lt 0 (length p.coefficients)) as (λ _. 0 < length p.coefficients) [
-      | inl fine ↦ fine
-      | inr none ↦ absurd (not_nought (at r q.coefficients 0) (sym here ∙ from_past m p (above m q.low) (let z = at_least here in omega arith)) (nq.first h)) ]
+        at_least : from r m p (above m q.low) ≡ at r q.coefficients 0 → above m p.low ≤ above m q.low
+        at_least here = elim (cases_lt (above m q.low) (above m p.low)) as (λ _. above m p.low ≤ above m q.low) [
+          | inl less ↦ absurd (not_nought (at r q.coefficients 0) (sym here ∙ from_below m p (above m q.low) less) (nq.first h))
+          | inr fine ↦ fine
+        ]
+
+        at_all : from r m p (above m q.low) ≡ at r q.coefficients 0 → 0 < length p.coefficients
+        at_all here = elim (cases_lt 0 (length p.coefficients)) as (λ _. 0 < length p.coefficients) [
+          | inl fine ↦ fine
+          | inr none ↦ absurd (not_nought (at r q.coefficients 0) (sym here ∙ from_past m p (above m q.low) (let z = at_least here in omega arith)) (nq.first h))
+        ]
 
   -- so is the last one
   last_within : (m : ℤ) (p q : Terms A) → IsPoly IsValue r q → ((k : ℕ) → from r m p k ≡ from r m q k) → 0 < length q.coefficients → known m q ≤ known m p
@@ -190,7 +195,8 @@ module _ {A : Type 0} {IsValue : A → Type 0} {r : Operations A} (laws : RingLa
       let here : from r m p (d + n) ≡ at r q.coefficients n = e (d + n) ∙ from_place m q n in
       elim (cases_lt (d + n) (known m p)) as (λ _. known m q ≤ known m p) [
         | inl fine ↦ omega arith
-        | inr past ↦ absurd (not_nought (at r q.coefficients n) (sym here ∙ from_past m p (d + n) past) (nq.last h)) ]
+        | inr past ↦ absurd (not_nought (at r q.coefficients n) (sym here ∙ from_past m p (d + n) past) (nq.last h))
+      ]
 
   same_both : (m : ℤ) (p q : Terms A) → IsPoly IsValue r p → IsPoly IsValue r q → m ≤ℤ p.low → m ≤ℤ q.low → ((k : ℕ) → from r m p k ≡ from r m q k) → 0 < length p.coefficients → 0 < length q.coefficients → p ≡ q
   same_both m p q np nq lp lq e hp hq =
@@ -208,4 +214,6 @@ module _ {A : Type 0} {IsValue : A → Type 0} {r : Operations A} (laws : RingLa
     | inr zp ↦ elim (cases_lt 0 (length q.coefficients)) as (λ _. p ≡ q) [
       | inl hq ↦ let a = first_within m p q nq e hq in let a' = a.1 in absurd (omega arith)
       | inr zq ↦ let lows : p.low ≡ q.low = np.none (omega arith) ∙ sym (nq.none (omega arith)) in
-          terms-same p.low q.low p.coefficients q.coefficients lows (same_listed r p.coefficients q.coefficients (omega arith) (λ k h. absurd (omega arith))) ] ]
+          terms-same p.low q.low p.coefficients q.coefficients lows (same_listed r p.coefficients q.coefficients (omega arith) (λ k h. absurd (omega arith)))
+    ]
+  ]

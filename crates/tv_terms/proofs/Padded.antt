@@ -74,7 +74,7 @@ module _ {A : Type 0} {IsValue : A → Type 0} {r : Operations A} (laws : RingLa
   padded-convolution (suc d) f g (suc k) v w =
       let moved : convolution r (λ i. padded r (suc d) f (suc i)) g k ≡ convolution r (padded r d f) g k = convolution-same r (λ i. padded r (suc d) f (suc i)) (padded r d f) g g k (λ i _. padded_next r d f i) (λ i _. refl) in
       rw (convolution-front laws (padded r (suc d) f) g k (value_padded (suc d) f v) w, padded_first r d f, nought-mul laws (g (suc k)) (w (suc k)), moved, padded-convolution d f g k v w, padded_next r d (convolution r f g) k)
-        (nought-add laws (padded r d (convolution r f g) k) (value_padded d (convolution r f g) (value_convolution laws f g v w) k))
+      (nought-add laws (padded r d (convolution r f g) k) (value_padded d (convolution r f g) (value_convolution laws f g v w) k))
 
   pub convolution-padded : (d : ℕ) (f g : ℕ → A) (k : ℕ) → AreValues IsValue f → AreValues IsValue g → convolution r f (padded r d g) k ≡ padded r d (convolution r f g) k
   convolution-padded d f g k v w =

@@ -28,7 +28,8 @@ module _ {A : Type 0} {IsValue : A → Type 0} {r : Operations A} (laws : RingLa
   at-listed_all : (f : ℕ → A) (n k : ℕ) → ((i : ℕ) → n ≤ i → f i ≡ r.nought) → at r (listed f n) k ≡ f k
   at-listed_all f n k e = elim (cases_lt k n) as (λ _. at r (listed f n) k ≡ f k) [
     | inl h ↦ at-listed r f n k h
-    | inr h ↦ at_past r (listed f n) k (let l = length-listed f n in omega arith) ∙ sym (e k h) ]
+    | inr h ↦ at_past r (listed f n) k (let l = length-listed f n in omega arith) ∙ sym (e k h)
+  ]
 
   -- ---- sums
 
@@ -63,7 +64,8 @@ module _ {A : Type 0} {IsValue : A → Type 0} {r : Operations A} (laws : RingLa
     each : (i : ℕ) → i < suc k → term r (at r xs) (at r ys) k i ≡ r.nought
     each i within = term_is r (at r xs) (at r ys) k i ∙ elim (cases_lt i (length xs)) as (λ _. r.mul (at r xs i) (at r ys (k - i)) ≡ r.nought) [
       | inl here ↦ rw (at_past r ys (k - i) (omega arith)) (mul-nought laws (at r xs i) (v i))
-      | inr past ↦ rw (at_past r xs i past) (nought-mul laws (at r ys (k - i)) (w (k - i))) ]
+      | inr past ↦ rw (at_past r xs i past) (nought-mul laws (at r ys (k - i)) (w (k - i)))
+    ]
 
   pub value_product_row : (p q : Terms A) (n : ℕ) → AreValues IsValue (at r p.coefficients) → AreValues IsValue (at r q.coefficients) → AreValues IsValue (at r (listed (convolution r (at r p.coefficients) (at r q.coefficients)) n))
   value_product_row p q n vp vq = value_listed laws (convolution r (at r p.coefficients) (at r q.coefficients)) n (value_convolution laws (at r p.coefficients) (at r q.coefficients) vp vq)
@@ -97,7 +99,8 @@ module _ {A : Type 0} {IsValue : A → Type 0} {r : Operations A} (laws : RingLa
   padded-negatives : (d : ℕ) (f : ℕ → A) (k : ℕ) → padded r d (negatives r f) k ≡ r.neg (padded r d f k)
   padded-negatives d f k = elim (cases_lt k d) as (λ _. padded r d (negatives r f) k ≡ r.neg (padded r d f k)) [
     | inl h ↦ padded_before r d (negatives r f) k h ∙ sym (ap r.neg (padded_before r d f k h) ∙ neg-nought laws)
-    | inr h ↦ padded_after r d (negatives r f) k h ∙ negatives_is r f (k - d) ∙ sym (ap r.neg (padded_after r d f k h)) ]
+    | inr h ↦ padded_after r d (negatives r f) k h ∙ negatives_is r f (k - d) ∙ sym (ap r.neg (padded_after r d f k h))
+  ]
 
   pub from-poly_negative : (m : ℤ) (p : Terms A) (k : ℕ) → AreValues IsValue (at r p.coefficients) → m ≤ℤ p.low → from r m (poly_negative r p) k ≡ r.neg (from r m p k)
   from-poly_negative m p k v h =

@@ -39,7 +39,8 @@ pub greatest_bounds : (f : ℕ → ℕ) (n k : ℕ) → k < n → f k ≤ greate
 greatest_bounds f zero k h = absurd (omega arith)
 greatest_bounds f (suc n) k h = elim (cases_lt k n) as (λ _. f k ≤ greatest_below f (suc n)) [
   | inl less ↦ let rest = greatest_bounds f n k less in rw (greatest-more f n) (omega arith)
-  | inr last ↦ let e : k ≡ n = omega arith in rw (e, greatest-more f n) (omega arith) ]
+  | inr last ↦ let e : k ≡ n = omega arith in rw (e, greatest-more f n) (omega arith)
+]
 
 reach_at_is : {A : Type 0} (r : Operations A) (low : ℤ) (f : ℕ → A) (k : ℕ) → reach_at r low f k ≡ (if r.is_nought (f k) then 0 else unsigned_abs (low +ℤ pos k) + r.reach (f k))
 unfolding reach_at
@@ -69,7 +70,9 @@ module _ {A : Type 0} {IsValue : A → Type 0} {r : Operations A} (laws : RingLa
     | inl below ↦ absurd (not_nought laws (from r m p k) (from_below laws m p k below) e)
     | inr fine ↦ elim (cases_lt k (known m p)) as (λ _. unsigned_abs (m +ℤ pos k) + r.reach (from r m p k) ≤ poly_reach r p) [
       | inr past ↦ absurd (not_nought laws (from r m p k) (from_past laws m p k past) e)
-      | inl within ↦ at_place (k - above m p.low) (omega arith) (omega arith) ] ] where
+      | inl within ↦ at_place (k - above m p.low) (omega arith) (omega arith)
+    ]
+  ] where
     at_place : (i : ℕ) → above m p.low + i ≡ k → i < length p.coefficients → unsigned_abs (m +ℤ pos k) + r.reach (from r m p k) ≤ poly_reach r p
     at_place i n within =
         let place : from r m p k ≡ at r p.coefficients i = ap (from r m p) (sym n) ∙ from_place laws m p i in
@@ -82,12 +85,12 @@ module _ {A : Type 0} {IsValue : A → Type 0} {r : Operations A} (laws : RingLa
   reach_least m p bound h each = rw (poly_reach_is r p) (greatest_least (reach_at r p.low (at r p.coefficients)) (length p.coefficients) bound (λ i within. bool_cases (r.is_nought (at r p.coefficients i))
       (λ e. let z = reach_at_nought r p.low (at r p.coefficients) i e in omega arith)
       (λ e.
-        let d = above m p.low in let place = from_place laws m p i in
-        let e' : r.is_nought (from r m p (d + i)) ≡ false = rw place e in
-        let there : m +ℤ pos (d + i) ≡ p.low +ℤ pos i = omega (arith, ints, above_is m p.low) in
-        let most : unsigned_abs (m +ℤ pos (d + i)) + r.reach (from r m p (d + i)) ≤ bound = each (d + i) e' in
-        let most' : unsigned_abs (p.low +ℤ pos i) + r.reach (at r p.coefficients i) ≤ bound = rw (there, place) at most in
-        rw (reach_at_here r p.low (at r p.coefficients) i e) most')))
+      let d = above m p.low in let place = from_place laws m p i in
+      let e' : r.is_nought (from r m p (d + i)) ≡ false = rw place e in
+      let there : m +ℤ pos (d + i) ≡ p.low +ℤ pos i = omega (arith, ints, above_is m p.low) in
+      let most : unsigned_abs (m +ℤ pos (d + i)) + r.reach (from r m p (d + i)) ≤ bound = each (d + i) e' in
+      let most' : unsigned_abs (p.low +ℤ pos i) + r.reach (at r p.coefficients i) ≤ bound = rw (there, place) at most in
+      rw (reach_at_here r p.low (at r p.coefficients) i e) most')))
 
   -- ---- sums and products of coefficients
 
@@ -95,15 +98,15 @@ module _ {A : Type 0} {IsValue : A → Type 0} {r : Operations A} (laws : RingLa
   sum_reaches e x y bound vx vy hx hy here = bool_cases (r.is_nought x)
       (λ b. let z : r.add x y ≡ y = rw (laws.only_nought x vx b) (nought-add laws y vy) in let here' : r.is_nought y ≡ false = rw z at here in rw z (hy here'))
       (λ b. bool_cases (r.is_nought y)
-        (λ b'. let z : r.add x y ≡ x = rw (laws.only_nought y vy b') (laws.add-nought x vx) in let here' : r.is_nought x ≡ false = rw z at here in rw z (hx here'))
-        (λ b'. let first = hx b in let second = hy b' in let both = size_laws.reach-add x y vx vy in omega arith))
+      (λ b'. let z : r.add x y ≡ x = rw (laws.only_nought y vy b') (laws.add-nought x vx) in let here' : r.is_nought x ≡ false = rw z at here in rw z (hx here'))
+      (λ b'. let first = hx b in let second = hy b' in let both = size_laws.reach-add x y vx vy in omega arith))
 
   mul_reaches : (e e' : ℤ) (x y : A) (bound bound' : ℕ) → IsValue x → IsValue y → Reaches r e x bound → Reaches r e' y bound' → Reaches r (e +ℤ e') (r.mul x y) (bound + bound')
   mul_reaches e e' x y bound bound' vx vy hx hy here = bool_cases (r.is_nought x)
       (λ b. absurd (not_nought laws (r.mul x y) (rw (laws.only_nought x vx b) (nought-mul laws y vy)) here))
       (λ b. bool_cases (r.is_nought y)
-        (λ b'. absurd (not_nought laws (r.mul x y) (rw (laws.only_nought y vy b') (mul-nought laws x vx)) here))
-        (λ b'. let first = hx b in let second = hy b' in let both = size_laws.reach-mul x y vx vy in omega (arith, ints)))
+      (λ b'. absurd (not_nought laws (r.mul x y) (rw (laws.only_nought y vy b') (mul-nought laws x vx)) here))
+      (λ b'. let first = hx b in let second = hy b' in let both = size_laws.reach-mul x y vx vy in omega (arith, ints)))
 
   sums_reach : (e : ℤ) (f : ℕ → A) (n bound : ℕ) → AreValues IsValue f → ((i : ℕ) → i < n → Reaches r e (f i) bound) → Reaches r e (sum_below r f n) bound
   sums_reach e f zero bound v h = λ here. absurd (not_nought laws (sum_below r f 0) (sum_below-none r f) here)
@@ -116,32 +119,32 @@ module _ {A : Type 0} {IsValue : A → Type 0} {r : Operations A} (laws : RingLa
       let m = int_min (int_min p.low q.low) (pos 0) in let bound = max (poly_reach r p) (poly_reach r q) in
       let lp : m ≤ℤ p.low = omega (arith, ints, clamps) in let lq : m ≤ℤ q.low = omega (arith, ints, clamps) in let z : m ≤ℤ pos 0 = omega (arith, ints, clamps) in
       reach_least m (poly_sum r p q) bound (sum_low laws m p q lp lq z) (λ k. rw (from-poly_sum laws m p q k np.values nq.values lp lq)
-        (sum_reaches (m +ℤ pos k) (from r m p k) (from r m q k) bound (value_from laws m p np.values k) (value_from laws m q nq.values k)
-          (λ e. let h = from_reaches m p k lp e in omega arith) (λ e. let h = from_reaches m q k lq e in omega arith)))
+      (sum_reaches (m +ℤ pos k) (from r m p k) (from r m q k) bound (value_from laws m p np.values k) (value_from laws m q nq.values k)
+      (λ e. let h = from_reaches m p k lp e in omega arith) (λ e. let h = from_reaches m q k lq e in omega arith)))
 
   term_reaches : (m m' : ℤ) (p q : Terms A) (k i : ℕ) → IsPoly IsValue r p → IsPoly IsValue r q → m ≤ℤ p.low → m' ≤ℤ q.low → i < suc k → Reaches r ((m +ℤ m') +ℤ pos k) (term r (from r m p) (from r m' q) k i) (poly_reach r p + poly_reach r q)
   term_reaches m m' p q k i np nq lp lq within =
       let there : (m +ℤ m') +ℤ pos k ≡ (m +ℤ pos i) +ℤ (m' +ℤ pos (k - i)) = omega (arith, ints) in
       rw (term_is r (from r m p) (from r m' q) k i, there)
-        (mul_reaches (m +ℤ pos i) (m' +ℤ pos (k - i)) (from r m p i) (from r m' q (k - i)) (poly_reach r p) (poly_reach r q) (value_from laws m p np.values i) (value_from laws m' q nq.values (k - i)) (from_reaches m p i lp) (from_reaches m' q (k - i) lq))
+      (mul_reaches (m +ℤ pos i) (m' +ℤ pos (k - i)) (from r m p i) (from r m' q (k - i)) (poly_reach r p) (poly_reach r q) (value_from laws m p np.values i) (value_from laws m' q nq.values (k - i)) (from_reaches m p i lp) (from_reaches m' q (k - i) lq))
 
   pub reach-poly_product : (p q : Terms A) → IsPoly IsValue r p → IsPoly IsValue r q → poly_reach r (poly_product r p q) ≤ poly_reach r p + poly_reach r q
   reach-poly_product p q np nq =
       let m = int_min p.low (pos 0) in let m' = int_min q.low (pos 0) in let bound = poly_reach r p + poly_reach r q in
       let lp : m ≤ℤ p.low = omega (arith, ints, clamps) in let lq : m' ≤ℤ q.low = omega (arith, ints, clamps) in let z : m ≤ℤ pos 0 = omega (arith, ints, clamps) in let z' : m' ≤ℤ pos 0 = omega (arith, ints, clamps) in
       reach_least (m +ℤ m') (poly_product r p q) bound (product_low laws m m' p q lp lq z z') (λ k.
-        rw (from-poly_product laws m m' p q k np.values nq.values lp lq, convolution_is r (from r m p) (from r m' q) k)
-          (sums_reach ((m +ℤ m') +ℤ pos k) (term r (from r m p) (from r m' q) k) (suc k) bound (value_term laws (from r m p) (from r m' q) k (value_from laws m p np.values) (value_from laws m' q nq.values))
-            (λ i within. term_reaches m m' p q k i np nq lp lq within)))
+      rw (from-poly_product laws m m' p q k np.values nq.values lp lq, convolution_is r (from r m p) (from r m' q) k)
+      (sums_reach ((m +ℤ m') +ℤ pos k) (term r (from r m p) (from r m' q) k) (suc k) bound (value_term laws (from r m p) (from r m' q) k (value_from laws m p np.values) (value_from laws m' q nq.values))
+      (λ i within. term_reaches m m' p q k i np nq lp lq within)))
 
   negative_at_most : (p : Terms A) → IsPoly IsValue r p → poly_reach r (poly_negative r p) ≤ poly_reach r p
   negative_at_most p np =
       let m = int_min p.low (pos 0) in let lp : m ≤ℤ p.low = omega (arith, ints, clamps) in let z : m ≤ℤ pos 0 = omega (arith, ints, clamps) in
       reach_least m (poly_negative r p) (poly_reach r p) (negative_low laws m p lp z) (λ k. rw (from-poly_negative laws m p k np.values lp) (negative_reaches (m +ℤ pos k) (from r m p k) (value_from laws m p np.values k) (from_reaches m p k lp))) where
-    negative_reaches : (e : ℤ) (x : A) → IsValue x → Reaches r e x (poly_reach r p) → Reaches r e (r.neg x) (poly_reach r p)
-    negative_reaches e x v h here = bool_cases (r.is_nought x)
-        (λ b. absurd (not_nought laws (r.neg x) (rw (laws.only_nought x v b) (neg-nought laws)) here))
-        (λ b. let most = h b in let same = size_laws.reach-neg x v in omega arith)
+        negative_reaches : (e : ℤ) (x : A) → IsValue x → Reaches r e x (poly_reach r p) → Reaches r e (r.neg x) (poly_reach r p)
+        negative_reaches e x v h here = bool_cases (r.is_nought x)
+            (λ b. absurd (not_nought laws (r.neg x) (rw (laws.only_nought x v b) (neg-nought laws)) here))
+            (λ b. let most = h b in let same = size_laws.reach-neg x v in omega arith)
 
   pub reach-poly_negative : (p : Terms A) → IsPoly IsValue r p → poly_reach r (poly_negative r p) ≡ poly_reach r p
   reach-poly_negative p np =

@@ -57,10 +57,16 @@ total-single a k = rw (total_below-more a k) (omega arith)
 size_convolution-front : {A : Type 0} (r : Operations A) (f g : ℕ → A) (k : ℕ) → size_convolution r f g (suc k) ≡ r.size (f 0) * r.size (g (suc k)) + size_convolution r (λ i. f (suc i)) g k
 size_convolution-front r f g k =
     let e : suc k - 0 ≡ suc k = omega arith in
-    rw (size_convolution_is r f g (suc k), total-front (size_term r f g (suc k)) (suc k), size_term_is r f g (suc k) 0, e, size_convolution_is r (λ i. f (suc i)) g k,
-      total_below-same (λ i. size_term r f g (suc k) (suc i)) (size_term r (λ i. f (suc i)) g k) (suc k) each) refl where
-  each : (i : ℕ) → i < suc k → size_term r f g (suc k) (suc i) ≡ size_term r (λ i. f (suc i)) g k i
-  each i h = let e : suc k - suc i ≡ k - i = omega arith in rw (size_term_is r f g (suc k) (suc i), e, size_term_is r (λ i. f (suc i)) g k i) refl
+    rw (
+      size_convolution_is r f g (suc k),
+      total-front (size_term r f g (suc k)) (suc k),
+      size_term_is r f g (suc k) 0,
+      e,
+      size_convolution_is r (λ i. f (suc i)) g k,
+      total_below-same (λ i. size_term r f g (suc k) (suc i)) (size_term r (λ i. f (suc i)) g k) (suc k) each,
+    ) refl where
+      each : (i : ℕ) → i < suc k → size_term r f g (suc k) (suc i) ≡ size_term r (λ i. f (suc i)) g k i
+      each i h = let e : suc k - suc i ≡ k - i = omega arith in rw (size_term_is r f g (suc k) (suc i), e, size_term_is r (λ i. f (suc i)) g k i) refl
 
 size_convolution-first : {A : Type 0} (r : Operations A) (f g : ℕ → A) → size_convolution r f g 0 ≡ r.size (f 0) * r.size (g 0)
 size_convolution-first r f g = rw (size_convolution_is r f g 0, total_below-more (size_term r f g 0) 0, total_below-none (size_term r f g 0), size_term_is r f g 0 0) (omega arith)
@@ -75,7 +81,7 @@ total-convolution r f g (suc n) =
     let less : total_below (sizes r g) n ≤ tg = rw (total_below-more (sizes r g) n) (omega arith) in
     let wider : tf * total_below (sizes r g) n ≤ tf * tg = mul-le tf (total_below (sizes r g) n) tf tg (omega arith) less in
     let spread : total_below (λ k. size_convolution r f g (suc k)) n ≡ c * total_below b n + total_below (size_convolution r f' g) n =
-        total_below-same (λ k. size_convolution r f g (suc k)) (λ k. c * b k + size_convolution r f' g k) n (λ k _. size_convolution-front r f g k) ∙ total-line c b (size_convolution r f' g) n in
+    total_below-same (λ k. size_convolution r f g (suc k)) (λ k. c * b k + size_convolution r f' g k) n (λ k _. size_convolution-front r f g k) ∙ total-line c b (size_convolution r f' g) n in
     let front : tg ≡ r.size (g 0) + total_below b n = total-front (sizes r g) n ∙ rw (sizes_is r g 0, total_below-same (λ k. sizes r g (suc k)) b n (λ k _. sizes_is r g (suc k))) refl in
     let both : total_below (sizes r f) (suc n) ≡ c + tf = total-front (sizes r f) n ∙ rw (sizes_is r f 0, total_below-same (λ k. sizes r f (suc k)) (sizes r f') n (λ k _. sizes_is r f (suc k) ∙ sym (sizes_is r f' k))) refl in
     let line : c * tg ≡ c * r.size (g 0) + c * total_below b n = ap (λ t. c * t) front ∙ mul-add c (r.size (g 0)) (total_below b n) in
@@ -109,7 +115,7 @@ module _ {A : Type 0} {IsValue : A → Type 0} {r : Operations A} (laws : RingLa
   total-at (x ∷ xs) (suc n) =
       let rest = total-at xs n in
       let moved : total_below (λ k. sizes r (at r (x ∷ xs)) (suc k)) n ≡ total_below (sizes r (at r xs)) n =
-          total_below-same (λ k. sizes r (at r (x ∷ xs)) (suc k)) (sizes r (at r xs)) n (λ k _. sizes_is r (at r (x ∷ xs)) (suc k) ∙ ap r.size (at-next r x xs k) ∙ sym (sizes_is r (at r xs) k)) in
+      total_below-same (λ k. sizes r (at r (x ∷ xs)) (suc k)) (sizes r (at r xs)) n (λ k _. sizes_is r (at r (x ∷ xs)) (suc k) ∙ ap r.size (at-next r x xs k) ∙ sym (sizes_is r (at r xs) k)) in
       let first : sizes r (at r (x ∷ xs)) 0 ≡ r.size x = sizes_is r (at r (x ∷ xs)) 0 ∙ ap r.size (at-first r x xs) in
       rw (total-front (sizes r (at r (x ∷ xs))) n, moved, first, row_size-cons r x xs) (omega arith)
 
@@ -119,7 +125,7 @@ module _ {A : Type 0} {IsValue : A → Type 0} {r : Operations A} (laws : RingLa
   total-padded (suc d) f (suc n) =
       let rest = total-padded d f n in
       let moved : total_below (λ k. sizes r (padded r (suc d) f) (suc k)) n ≡ total_below (sizes r (padded r d f)) n =
-          total_below-same (λ k. sizes r (padded r (suc d) f) (suc k)) (sizes r (padded r d f)) n (λ k _. sizes_is r (padded r (suc d) f) (suc k) ∙ ap r.size (padded_next r d f k) ∙ sym (sizes_is r (padded r d f) k)) in
+      total_below-same (λ k. sizes r (padded r (suc d) f) (suc k)) (sizes r (padded r d f)) n (λ k _. sizes_is r (padded r (suc d) f) (suc k) ∙ ap r.size (padded_next r d f k) ∙ sym (sizes_is r (padded r d f) k)) in
       let first : sizes r (padded r (suc d) f) 0 ≡ 0 = sizes_is r (padded r (suc d) f) 0 ∙ ap r.size (padded_first r d f) ∙ size_laws.size-nought in
       rw (total-front (sizes r (padded r (suc d) f)) n, moved, first, total_below-more (sizes r f) n) (omega arith)
 
@@ -162,19 +168,19 @@ module _ {A : Type 0} {IsValue : A → Type 0} {r : Operations A} (laws : RingLa
       let f = at r p.coefficients in let g = at r q.coefficients in let n = length p.coefficients + length q.coefficients - 1 in
       let each = total_below-≤ (sizes r (convolution r f g)) (size_convolution r f g) n (λ k _. rw (sizes_is r (convolution r f g) k) (size-convolution laws size_laws f g k vp vq)) in
       rw (row_size-normal (p.low +ℤ q.low) (listed (convolution r f g) n) (value_product_row laws p q n vp vq), row_size-listed r (convolution r f g) n)
-        (le_trans each (le_trans (total-convolution r f g n) (mul-le (total_below (sizes r f) n) (total_below (sizes r g) n) (row_size r p.coefficients) (row_size r q.coefficients) (total-at p.coefficients n) (total-at q.coefficients n))))
+      (le_trans each (le_trans (total-convolution r f g n) (mul-le (total_below (sizes r f) n) (total_below (sizes r g) n) (row_size r p.coefficients) (row_size r q.coefficients) (total-at p.coefficients n) (total-at q.coefficients n))))
 
   pub size-poly_negative : (p : Terms A) → AreValues IsValue (at r p.coefficients) → row_size r (poly_negative r p).coefficients ≡ row_size r p.coefficients
   size-poly_negative p v =
       let xs = p.coefficients in let f = negatives r (at r xs) in let n = length xs in
       let whole : row_size r xs ≡ total_below (sizes r (at r xs)) n = ap (row_size r) (listed_all r (at r xs) xs n refl (λ k _. refl)) ∙ row_size-listed r (at r xs) n in
       rw (row_size-normal p.low (listed f n) (value_listed laws f n (value_negatives laws (at r xs) v)), row_size-listed r f n, whole)
-        (total_below-same (sizes r f) (sizes r (at r xs)) n (λ k _. sizes_is r f k ∙ ap r.size (negatives_is r (at r xs) k) ∙ size_laws.size-neg (at r xs k) (v k) ∙ sym (sizes_is r (at r xs) k)))
+      (total_below-same (sizes r f) (sizes r (at r xs)) n (λ k _. sizes_is r f k ∙ ap r.size (negatives_is r (at r xs) k) ∙ size_laws.size-neg (at r xs k) (v k) ∙ sym (sizes_is r (at r xs) k)))
 
   pub size-poly_one : row_size r (poly_one r).coefficients ≤ 1
   size-poly_one =
       let one = size_laws.size-unit in let n = row_size-nil r in
       rw (row_size-normal (pos 0) (r.unit ∷ []) single, row_size-cons r r.unit []) (omega arith) where
-    single : AreValues IsValue (at r (r.unit ∷ []))
-    single zero = rw (at-first r r.unit []) laws.value_unit
-    single (suc k) = rw (at-next r r.unit [] k, at-nil r k) laws.value_nought
+        single : AreValues IsValue (at r (r.unit ∷ []))
+        single zero = rw (at-first r r.unit []) laws.value_unit
+        single (suc k) = rw (at-next r r.unit [] k, at-nil r k) laws.value_nought

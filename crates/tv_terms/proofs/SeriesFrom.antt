@@ -36,6 +36,7 @@ pub same_terms : {A : Type 0} (r : Operations A) (m : ℤ) (a b : Terms A) → a
 same_terms r m a b ea eb n each = terms-same a.low b.low a.coefficients b.coefficients (ea ∙ sym eb) (same_listed r a.coefficients b.coefficients lengths places) where
   lengths : length a.coefficients ≡ length b.coefficients
   lengths = let p : above m a.low ≡ 0 = rw ea (above_same m) in let q : above m b.low ≡ 0 = rw eb (above_same m) in omega arith
+
   places : (k : ℕ) → k < length b.coefficients → at r a.coefficients k ≡ at r b.coefficients k
   places k h =
       let p : from r m a k ≡ at r a.coefficients k = rw (← ea) (from_low r a k) in let q : from r m b k ≡ at r b.coefficients k = rw (← eb) (from_low r b k) in
@@ -45,7 +46,8 @@ module _ {A : Type 0} {IsValue : A → Type 0} {r : Operations A} (laws : RingLa
   pub value_listed : (f : ℕ → A) (n : ℕ) → AreValues IsValue f → AreValues IsValue (at r (listed f n))
   value_listed f n v k = elim (cases_lt k n) as (λ _. IsValue (at r (listed f n) k)) [
     | inl h ↦ rw (at-listed r f n k h) (v k)
-    | inr h ↦ let e : length (listed f n) ≤ k = omega (arith, length-listed f n) in rw (at_past r (listed f n) k e) laws.value_nought ]
+    | inr h ↦ let e : length (listed f n) ≤ k = omega (arith, length-listed f n) in rw (at_past r (listed f n) k e) laws.value_nought
+  ]
 
   pub value_from : (m : ℤ) (t : Terms A) → AreValues IsValue (at r t.coefficients) → AreValues IsValue (from r m t)
   value_from m t v k = rw (from_is r m t k) (value_padded laws (above m t.low) (at r t.coefficients) v k)
@@ -53,7 +55,7 @@ module _ {A : Type 0} {IsValue : A → Type 0} {r : Operations A} (laws : RingLa
   pub known-sum : (m : ℤ) (a b : Terms A) → m ≤ℤ a.low → m ≤ℤ b.low → known m (series_sum r a b) ≡ min (known m a) (known m b)
   known-sum m a b ha hb = let l = int_min a.low b.low in
       rw (length-listed (plus r (from r l a) (from r l b)) (min (known l a) (known l b)))
-        (omega (arith, ints, clamps, above_is m a.low, above_is m b.low, above_is m l, above_is l a.low, above_is l b.low))
+      (omega (arith, ints, clamps, above_is m a.low, above_is m b.low, above_is m l, above_is l a.low, above_is l b.low))
 
   pub from-sum : (m : ℤ) (a b : Terms A) (k : ℕ) → AreValues IsValue (at r a.coefficients) → AreValues IsValue (at r b.coefficients) → m ≤ℤ a.low → m ≤ℤ b.low → k < known m (series_sum r a b) → from r m (series_sum r a b) k ≡ r.add (from r m a k) (from r m b k)
   from-sum m a b k va vb ha hb h =

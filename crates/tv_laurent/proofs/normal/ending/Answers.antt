@@ -11,9 +11,13 @@ pub loop-end-preserved : goal.loop-end-preserved
 loop-end-preserved g c =
     let r = g.C.Ring.ring in let row = c.args.row.now in let k = c.loop-end.end - 1 in let within = c.loop-end.invariant.within in let test = c.loop-end-test.true in
     let here : at r row k ≡ r.nought = sym (at_read r row k c.index-row-end.result c.index-row-end.is (omega arith)) ∙ c.same.ensures.same.0 c.if-same.true ∙ c.requires.zero in
-    record { within = omega arith; zeros = λ i h. elim (cases_lt k i) as (λ _. at r row i ≡ r.nought) [
-      | inl more ↦ c.loop-end.invariant.zeros i (omega arith)
-      | inr first ↦ let e : i ≡ k = omega arith in rw e here ] }
+    record {
+      within = omega arith;
+      zeros = λ i h. elim (cases_lt k i) as (λ _. at r row i ≡ r.nought) [
+        | inl more ↦ c.loop-end.invariant.zeros i (omega arith)
+        | inr first ↦ let e : i ≡ k = omega arith in rw e here
+      ];
+    }
 
 pub returns-else-same-clause-last : goal.returns-else-same-clause-last
 returns-else-same-clause-last g c h e =

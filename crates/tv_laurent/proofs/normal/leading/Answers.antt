@@ -8,9 +8,13 @@ pub loop-count-preserved : goal.loop-count-preserved
 loop-count-preserved g c =
     let r = g.C.Ring.ring in let row = c.args.row.now in let k = c.loop-count.count in
     let here : at r row k ≡ r.nought = sym (at_read r row k c.index-row-count.result c.index-row-count.is c.loop-count-test.true) ∙ c.same.ensures.same.0 c.if-same.true ∙ c.requires.zero in
-    record { within = omega (arith, c.loop-count-test.true); zeros = λ i h. elim (cases_lt i k) as (λ _. at r row i ≡ r.nought) [
-      | inl less ↦ c.loop-count.invariant.zeros i less
-      | inr last ↦ let e : i ≡ k = omega arith in rw e here ] }
+    record {
+      within = omega (arith, c.loop-count-test.true);
+      zeros = λ i h. elim (cases_lt i k) as (λ _. at r row i ≡ r.nought) [
+        | inl less ↦ c.loop-count.invariant.zeros i less
+        | inr last ↦ let e : i ≡ k = omega arith in rw e here
+      ];
+    }
 
 pub returns-else-same-clause-first : goal.returns-else-same-clause-first
 returns-else-same-clause-first g c h e =

@@ -20,10 +20,10 @@ invariant_of-result-2 g c =
     let ok = c.args.coefficients.ok in let n = c.len.ensures in let test = c.if-front-len.false in let most = c.leading-front.ensures.within in let e = ap length c.deref.ensures.value in
     let low = c.requires.low in let count = c.requires.count in
     same_kept laws sizes _ (normal g.C.Ring.ring c.args.low xs)
-      (what_is_left laws sizes c.args.low _ xs c.deref.result.now c.deref-2.result.now c.truncate.new.self.items c.rotate_left.new.self.items c.truncate-2.new.self.items front end c.deref.ensures.value c.deref-2.ensures.value
-        (omega (arith, ints)) c.requires.values (omega arith) c.ending-end.ensures.within c.leading-front.ensures.zeros c.leading-front.ensures.first c.ending-end.ensures.zeros c.ending-end.ensures.last
-        c.truncate.ensures.items c.rotate_left.ensures.items c.truncate-2.ensures.items)
-      (normal_kept laws sizes c.args.low xs c.requires.values c.requires.reach)
+    (what_is_left laws sizes c.args.low _ xs c.deref.result.now c.deref-2.result.now c.truncate.new.self.items c.rotate_left.new.self.items c.truncate-2.new.self.items front end c.deref.ensures.value c.deref-2.ensures.value
+    (omega (arith, ints)) c.requires.values (omega arith) c.ending-end.ensures.within c.leading-front.ensures.zeros c.leading-front.ensures.first c.ending-end.ensures.zeros c.ending-end.ensures.last
+    c.truncate.ensures.items c.rotate_left.ensures.items c.truncate-2.ensures.items)
+    (normal_kept laws sizes c.args.low xs c.requires.values c.requires.reach)
 
 pub returns-clause-value : goal.returns-clause-value
 returns-clause-value g c =
@@ -31,5 +31,5 @@ returns-clause-value g c =
     let ok = c.args.coefficients.ok in let n = c.len.ensures in let test = c.if-front-len.false in let most = c.leading-front.ensures.within in let e = ap length c.deref.ensures.value in
     let low = c.requires.low in let count = c.requires.count in
     what_is_left laws sizes c.args.low _ xs c.deref.result.now c.deref-2.result.now c.truncate.new.self.items c.rotate_left.new.self.items c.truncate-2.new.self.items front end c.deref.ensures.value c.deref-2.ensures.value
-        (omega (arith, ints)) c.requires.values (omega arith) c.ending-end.ensures.within c.leading-front.ensures.zeros c.leading-front.ensures.first c.ending-end.ensures.zeros c.ending-end.ensures.last
-        c.truncate.ensures.items c.rotate_left.ensures.items c.truncate-2.ensures.items
+    (omega (arith, ints)) c.requires.values (omega arith) c.ending-end.ensures.within c.leading-front.ensures.zeros c.leading-front.ensures.first c.ending-end.ensures.zeros c.ending-end.ensures.last
+    c.truncate.ensures.items c.rotate_left.ensures.items c.truncate-2.ensures.items

@@ -20,7 +20,7 @@ returns-in-Err-clause-wide g c =
     let r = g.C.Ring.ring in let k = c.loop-place.place in let x = at_read r c.args.a.now k c.index-a-place.result c.index-a-place.is c.loop-place-test.true in
     let low = c.requires.low in let count = c.requires.count in
     rw c.fault_at.ensures.value (on_wide c.in-Err.fault _ _ _ k _ (omega (arith, ints)) c.loop-place-test.true
-      (λ e. rw (scale_size_is r c.args.factor.now (at r c.args.a.now) k, ← x) (c.in-Err.ensures.wide (ap Err e))))
+    (λ e. rw (scale_size_is r c.args.factor.now (at r c.args.a.now) k, ← x) (c.in-Err.ensures.wide (ap Err e))))
 
 pub loop-place-preserved : goal.loop-place-preserved
 loop-place-preserved g c =

@@ -43,8 +43,8 @@ invariant_of-result g c =
     let d : c.places-before.result ≡ above m a.low = c.places-before.ensures.value ∙ rw (e, k) refl in let d' : c.places-before_other.result ≡ above m b.low = c.places-before_other.ensures.value ∙ rw (e, k') refl in
     let xs = ap length c.deref.ensures.value in let ys = ap length c.deref-2.ensures.value in
     same_series _ (series_sum g.C.Ring.ring a b)
-      (sum_result g.C.Ring.ring a b _ _ _ _ _ _ _ c.deref.ensures.value c.deref-2.ensures.value e d d' (omega arith) c.in_ok-coefficients.ensures.value)
-      (sum_is_series g.met.C.Ring.laws a b c.self.invariant c.other.invariant)
+    (sum_result g.C.Ring.ring a b _ _ _ _ _ _ _ c.deref.ensures.value c.deref-2.ensures.value e d d' (omega arith) c.in_ok-coefficients.ensures.value)
+    (sum_is_series g.met.C.Ring.laws a b c.self.invariant c.other.invariant)
 
 pub returns-clause-value : goal.returns-clause-value
 returns-clause-value g c =
@@ -55,7 +55,7 @@ returns-clause-value g c =
     let d : c.places-before.result ≡ above m a.low = c.places-before.ensures.value ∙ rw (e, k) refl in let d' : c.places-before_other.result ≡ above m b.low = c.places-before_other.ensures.value ∙ rw (e, k') refl in
     let xs = ap length c.deref.ensures.value in let ys = ap length c.deref-2.ensures.value in
     rw (← c.self.view_is, ← c.other.view_is)
-      (sum_result g.C.Ring.ring a b _ _ _ _ _ _ _ c.deref.ensures.value c.deref-2.ensures.value e d d' (omega arith) c.in_ok-coefficients.ensures.value)
+    (sum_result g.C.Ring.ring a b _ _ _ _ _ _ _ c.deref.ensures.value c.deref-2.ensures.value e d d' (omega arith) c.in_ok-coefficients.ensures.value)
 
 pub overflow_add-before : goal.overflow_add-before
 overflow_add-before g c = let ok = c.self.inside.coefficients.ok in let la = c.self.invariant.bounded.low in let ua = c.self.invariant.bounded.upto in let d = c.places-before.ensures.small in omega (arith, ints)

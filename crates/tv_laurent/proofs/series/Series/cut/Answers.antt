@@ -12,8 +12,8 @@ pub invariant_of-result : goal.invariant_of-result
 invariant_of-result g c =
     let a = c.self.inside in let n = c.args.upto in let within = c.requires.within in let o = above_is a.low (n +ℤ pos 1) in
     same_series _ (series_cut n (terms a.low a.coefficients.items))
-      (terms-same _ (int_min a.low (n +ℤ pos 1)) _ (take (above a.low (n +ℤ pos 1)) a.coefficients.items) (omega (arith, ints, clamps)) (c.truncate.ensures.items ∙ ap (λ k. take k a.coefficients.items) (omega (arith, ints, clamps))))
-      (cut_is_series g.met.C.Ring.laws n (terms a.low a.coefficients.items) c.requires.within c.self.invariant)
+    (terms-same _ (int_min a.low (n +ℤ pos 1)) _ (take (above a.low (n +ℤ pos 1)) a.coefficients.items) (omega (arith, ints, clamps)) (c.truncate.ensures.items ∙ ap (λ k. take k a.coefficients.items) (omega (arith, ints, clamps))))
+    (cut_is_series g.met.C.Ring.laws n (terms a.low a.coefficients.items) c.requires.within c.self.invariant)
 
 pub returns : goal.returns
 returns g c =

@@ -19,8 +19,8 @@ invariant_of-result g c =
     let a = terms c.self.inside.low c.self.inside.coefficients.items in let b = terms c.other.inside.low c.other.inside.coefficients.items in
     let bounded = rw (← c.self.view_is, ← c.other.view_is) at c.requires.bounded in let low = bounded.low in let n = c.min-count.ensures in
     same_series _ (series_product g.C.Ring.ring a b)
-      (product_result g.C.Ring.ring a b _ _ _ _ _ c.deref.ensures.value c.deref-2.ensures.value (omega (arith, ints)) (omega arith) c.in_ok-coefficients.ensures.value)
-      (product_is_series g.met.C.Ring.laws a b bounded c.self.invariant c.other.invariant)
+    (product_result g.C.Ring.ring a b _ _ _ _ _ c.deref.ensures.value c.deref-2.ensures.value (omega (arith, ints)) (omega arith) c.in_ok-coefficients.ensures.value)
+    (product_is_series g.met.C.Ring.laws a b bounded c.self.invariant c.other.invariant)
 
 pub returns-clause-value : goal.returns-clause-value
 returns-clause-value g c =

@@ -10,5 +10,5 @@ pub invariant_of-result : goal.invariant_of-result
 invariant_of-result g c =
     let a = terms c.self.inside.low c.self.inside.coefficients.items in let low = c.self.invariant.bounded.low in
     same_series _ (series_scale g.C.Ring.ring c.args.factor.now a)
-      (scale_result g.C.Ring.ring c.args.factor.now a _ _ _ c.deref.ensures.value (omega (arith, ints)) c.in_ok-coefficients.ensures.value)
-      (scale_is_series g.met.C.Ring.laws c.args.factor.now a c.known.ensures.value c.self.invariant)
+    (scale_result g.C.Ring.ring c.args.factor.now a _ _ _ c.deref.ensures.value (omega (arith, ints)) c.in_ok-coefficients.ensures.value)
+    (scale_is_series g.met.C.Ring.laws c.args.factor.now a c.known.ensures.value c.self.invariant)
