@@ -1,7 +1,7 @@
 -- What the calls of a polynomial put together is the sum, the product or the negative, and stays within reach.
-use Rattle.std.proofs.Common.{◌≡◌, ℕ, ◌+◌, ◌-◌, ◌*◌, ◌<◌, ◌≤◌, ◌^◌, max, ℤ, pos, ◌+ℤ◌, unsigned_abs, List, [], ◌∷◌, ◌++◌, length, take, drop, Err, refl, sym, ◌∙◌, ap, subst, arith, inl, inr}
+use Rattle.std.proofs.Common.{◌≡◌, ℕ, ◌+◌, ◌-◌, ◌*◌, ◌<◌, ◌≤◌, ◌^◌, max, ℤ, pos, ◌+ℤ◌, unsigned_abs, List, [], ◌++◌, length, take, drop, Err, refl, sym, ◌∙◌, ap, arith, inl, inr}
 use Rattle.std.specs.Int.{int_min}
-use Rattle.std.proofs.lemmas.Int.{ints, clamps}
+use Rattle.std.proofs.lemmas.Int.{ints}
 use Rattle.std.proofs.lemmas.Bool.{cases_lt}
 use Rattle.std.specs.Result.{IsErrOf}
 use Rattle.tv_ring.specs.Operations.{Operations, RingLaws, SizeLaws, limit, reach_limit}
@@ -9,7 +9,7 @@ use Rattle.tv_ring.specs.Sums.{AreValues, at, convolution, size_convolution}
 use Rattle.tv_ring.specs.declared.fault.RingFault.{RingFault}
 use Rattle.tv_ring.specs.declared.fault.RingFault.TheVariants as ring
 use Rattle.tv_terms.specs.Terms.{Terms, terms, above, padded, from, known, listed, plus, IsWithin}
-use Rattle.tv_terms.specs.Polynomials.{normal, negatives, row_size, IsPoly, IsKept, poly_zero, poly_reach, poly_sum, poly_product, poly_negative}
+use Rattle.tv_terms.specs.Polynomials.{normal, negatives, row_size, IsKept, poly_reach, poly_sum, poly_product, poly_negative}
 use Rattle.tv_terms.proofs.Listed.{length-listed, length-between, at-between}
 use Rattle.tv_terms.proofs.SeriesFrom.{value_listed}
 use Rattle.tv_terms.proofs.PolyFrom.{value_sum_row, value_product_row, value_negatives}

@@ -4,8 +4,8 @@ use Rattle.std.specs.Int.{int_min}
 use Rattle.std.proofs.lemmas.Int.{ints, clamps}
 use Rattle.tv_ring.specs.Operations.{Operations, RingLaws}
 use Rattle.tv_ring.specs.Sums.{at, convolution, size_convolution}
-use Rattle.tv_terms.specs.Terms.{Terms, terms, above, padded, from, known, listed, plus, scaled, IsBounded}
-use Rattle.tv_terms.specs.Series.{series_sum, series_product, series_scale, IsSeries}
+use Rattle.tv_terms.specs.Terms.{Terms, terms, above, padded, from, known, listed, plus, scaled, IsWithin, IsBounded}
+use Rattle.tv_terms.specs.Series.{series_sum, product_upto, series_product, series_scale, IsSeries}
 use Rattle.tv_laurent.specs.SeriesCalls.{IsWideAt, IsSumWide, IsProductWide, sum_size, OnWide}
 use Rattle.tv_laurent.specs.declared.fault.SeriesFault.{SeriesFault}
 use Rattle.tv_laurent.specs.declared.fault.SeriesFault.TheVariants.{Wide, Memory}
@@ -54,6 +54,11 @@ module _ {A : Type 0} {IsValue : A → Type 0} {r : Operations A} (laws : RingLa
       let la = sa.bounded.low in let lb = sb.bounded.low in let ua = sa.bounded.upto in let ub = sb.bounded.upto in
       let oa = above_is m a.low in let ob = above_is m b.low in
       record { bounded = record { low = omega (arith, ints, clamps); upto = omega (arith, ints, clamps) }; values = value_series_sum laws a b sa.values sb.values }
+
+  pub product_bounded : (a b : Terms A) → IsWithin (a.low +ℤ b.low) → IsWithin (product_upto a b) → IsBounded (series_product r a b)
+  product_bounded a b low last =
+      let n = length-listed (convolution r (at r a.coefficients) (at r b.coefficients)) (min (length a.coefficients) (length b.coefficients)) in
+      record { low = low; upto = omega (arith, ints, clamps) }
 
   pub product_is_series : (a b : Terms A) → IsBounded (series_product r a b) → IsSeries IsValue r a → IsSeries IsValue r b → IsSeries IsValue r (series_product r a b)
   product_is_series a b bounded sa sb = record { bounded = bounded; values = value_series_product laws a b sa.values sb.values }

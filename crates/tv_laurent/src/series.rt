@@ -4,7 +4,7 @@
 ghost use Rattle.std.specs.Prelude.{◌≡◌, ◌+◌, ◌-◌, ◌<◌, ◌≤◌, ◌+ℤ◌, ◌≤ℤ◌, ◌^◌, pos, min, length, IfOk, IfErr};
 ghost use Rattle.tv_ring.specs.Sums.{at, AreValues};
 ghost use Rattle.tv_terms.specs.Terms.{terms, above, upto, IsWithin, IsBounded};
-ghost use Rattle.tv_terms.specs.Series.{series_sum, series_product, series_scale, series_shift, series_cut, IsSeries};
+ghost use Rattle.tv_terms.specs.Series.{series_sum, product_upto, series_product, series_scale, series_shift, series_cut, IsSeries};
 ghost use Rattle.tv_laurent.specs.SeriesCalls.{Tells, ReachesAddUp, ReachesAddTo, OnWide, IsSumWide, IsProductWide, IsMultipleWide};
 
 use crate::coefficient::Coefficient;
@@ -107,7 +107,8 @@ impl<C: Ring> Series<C> {
 
     /// The product, from the sum of both lows, known through the lesser of `low + other.upto` and `other.low + upto`.
     pub fn mul(&self, other: &Series<C>) -> Result<Series<C>, SeriesFault>
-        requires bounded { IsBounded (series_product C.ring self.now other.now) }
+        requires low { IsWithin (self.now.low +ℤ other.now.low) }
+        requires upto { IsWithin (product_upto self.now other.now) }
         requires reaches { ReachesAddUp C.ring self.now.coefficients other.now.coefficients }
         ensures value { IfOk result (λ s. s ≡ series_product C.ring self.now other.now) }
 

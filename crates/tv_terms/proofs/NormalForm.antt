@@ -1,14 +1,14 @@
 -- The normal form of a row of coefficients: it is one, it keeps each coefficient, and only one row has it.
 use Rattle.std.proofs.Common.{◌≡◌, ℕ, zero, suc, ◌+◌, ◌-◌, ◌<◌, ◌≤◌, ℤ, pos, ◌+ℤ◌, ◌≤ℤ◌, Bool, true, false, if◌then◌else◌, List, [], ◌∷◌, length, refl, sym, ◌∙◌, ap, subst, arith, inl, inr}
-use Rattle.std.proofs.lemmas.Int.{ints, clamps}
+use Rattle.std.proofs.lemmas.Int.{ints}
 use Rattle.std.proofs.lemmas.Bool.{cases_lt, cases_order}
 use Rattle.tv_ring.specs.Operations.{Operations, RingLaws}
 use Rattle.tv_ring.specs.Sums.{AreValues, at}
 use Rattle.tv_terms.specs.Terms.{Terms, terms, above, padded, from, known}
 use Rattle.tv_terms.specs.Polynomials.{trimmed, normal, onto, IsPoly}
-use Rattle.tv_terms.proofs.Exponents.{above_is, above_same}
-use Rattle.tv_terms.proofs.Listed.{at_past, same_listed, values_all}
-use Rattle.tv_terms.proofs.Padded.{padded_zero, padded_before, padded_after, padded-same}
+use Rattle.tv_terms.proofs.Exponents.{above_is}
+use Rattle.tv_terms.proofs.Listed.{at_past, same_listed}
+use Rattle.tv_terms.proofs.Padded.{padded_before, padded_after, padded-same}
 use Rattle.tv_terms.proofs.SeriesFrom.{from_is, terms-same}
 
 -- ---- elements of a list

@@ -1,8 +1,8 @@
 -- A sequence that begins with noughts.
-use Rattle.std.proofs.Common.{◌≡◌, ℕ, zero, suc, ◌+◌, ◌-◌, ◌<◌, ◌≤◌, refl, sym, ◌∙◌, ap, arith}
+use Rattle.std.proofs.Common.{◌≡◌, ℕ, zero, suc, ◌+◌, ◌-◌, ◌<◌, ◌≤◌, refl, sym, ◌∙◌, arith}
 use Rattle.tv_ring.specs.Operations.{Operations, RingLaws}
 use Rattle.tv_ring.specs.Sums.{AreValues, convolution}
-use Rattle.tv_ring.proofs.Rings.{mul-nought, nought-mul, nought-add}
+use Rattle.tv_ring.proofs.Rings.{nought-mul, nought-add}
 use Rattle.tv_ring.proofs.Products.{convolution-first, convolution-front, convolution_comm, convolution-same, value_convolution}
 use Rattle.tv_terms.specs.Terms.{padded, plus, scaled}
 

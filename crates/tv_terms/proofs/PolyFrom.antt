@@ -1,20 +1,20 @@
 -- The coefficients of sums, products and negatives of polynomials, counted from any exponent at or below their lows.
-use Rattle.std.proofs.Common.{◌≡◌, ℕ, zero, suc, ◌+◌, ◌-◌, ◌<◌, ◌≤◌, max, ℤ, pos, ◌+ℤ◌, ◌≤ℤ◌, List, [], ◌∷◌, length, refl, sym, ◌∙◌, ap, arith, inl, inr}
+use Rattle.std.proofs.Common.{◌≡◌, ℕ, suc, ◌+◌, ◌-◌, ◌<◌, ◌≤◌, max, ℤ, pos, ◌+ℤ◌, ◌≤ℤ◌, List, length, refl, sym, ◌∙◌, ap, arith, inl, inr}
 use Rattle.std.specs.Int.{int_min}
 use Rattle.std.proofs.lemmas.Int.{ints, clamps}
 use Rattle.std.proofs.lemmas.Bool.{cases_lt}
 use Rattle.tv_ring.specs.Operations.{Operations, RingLaws}
-use Rattle.tv_ring.specs.Sums.{AreValues, at, sum_below, term, convolution}
+use Rattle.tv_ring.specs.Sums.{AreValues, at, term, convolution}
 use Rattle.tv_ring.proofs.Rings.{mul-nought, nought-mul, neg-nought}
 use Rattle.tv_ring.proofs.Sums.{sum-nought}
 use Rattle.tv_ring.proofs.Products.{term_is, convolution_is, convolution-same, value_convolution}
 use Rattle.tv_terms.specs.Terms.{Terms, terms, above, padded, from, known, listed, plus}
-use Rattle.tv_terms.specs.Polynomials.{normal, negatives, IsPoly, poly_zero, poly_one, poly_sum, poly_product, poly_negative}
-use Rattle.tv_terms.proofs.Exponents.{above_is, above-+ℤ}
+use Rattle.tv_terms.specs.Polynomials.{negatives, IsPoly, poly_sum, poly_product, poly_negative}
+use Rattle.tv_terms.proofs.Exponents.{above-+ℤ}
 use Rattle.tv_terms.proofs.Listed.{length-listed, at-listed, at_past}
-use Rattle.tv_terms.proofs.Padded.{padded_zero, padded_before, padded_after, padded-same, plus_is, value_plus, padded-plus, padded-both}
+use Rattle.tv_terms.proofs.Padded.{padded_before, padded_after, padded-same, plus_is, value_plus, padded-plus, padded-both}
 use Rattle.tv_terms.proofs.SeriesFrom.{from_is, from_lower, value_listed, value_from}
-use Rattle.tv_terms.proofs.NormalForm.{from_nil, from_past, from-normal, normal_is_poly, normal_low}
+use Rattle.tv_terms.proofs.NormalForm.{from_past, from-normal, normal_is_poly, normal_low}
 
 pub negatives_is : {A : Type 0} (r : Operations A) (f : ℕ → A) (k : ℕ) → negatives r f k ≡ r.neg (f k)
 unfolding negatives

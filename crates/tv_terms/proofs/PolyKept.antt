@@ -1,5 +1,5 @@
 -- What a bounded reach says of the exponents and coefficients of a polynomial.
-use Rattle.std.proofs.Common.{◌≡◌, ℕ, zero, suc, ◌+◌, ◌-◌, ◌<◌, ◌≤◌, max, ℤ, pos, ◌+ℤ◌, ◌-ℤ◌, unsigned_abs, ◌≤ℤ◌, true, false, List, [], ◌∷◌, length, refl, sym, ◌∙◌, ap, subst, arith, inl, inr}
+use Rattle.std.proofs.Common.{◌≡◌, ℕ, ◌+◌, ◌-◌, ◌<◌, ◌≤◌, ℤ, pos, ◌+ℤ◌, unsigned_abs, ◌≤ℤ◌, false, List, [], ◌∷◌, length, sym, ◌∙◌, ap, subst, arith, inl, inr}
 use Rattle.std.specs.Int.{int_min}
 use Rattle.std.proofs.lemmas.Int.{ints, clamps}
 use Rattle.std.proofs.lemmas.Bool.{cases_lt}
@@ -10,8 +10,8 @@ use Rattle.tv_terms.specs.Polynomials.{trimmed, normal, IsPoly, IsKept, reach_at
 use Rattle.tv_terms.proofs.Exponents.{above_is}
 use Rattle.tv_terms.proofs.Listed.{at_past, values_all}
 use Rattle.tv_terms.proofs.Padded.{padded-same, padded_before, padded_after}
-use Rattle.tv_terms.proofs.SeriesFrom.{from_is, from_low, from_lower}
-use Rattle.tv_terms.proofs.NormalForm.{at-first, trimmed-nil, normal-nil, normal-nought, normal-here, bool_cases, nought_is, nil_is_poly, from_nil, from-normal, normal_is_poly, normal_low, same_poly}
+use Rattle.tv_terms.proofs.SeriesFrom.{from_is, from_lower}
+use Rattle.tv_terms.proofs.NormalForm.{at-first, trimmed-nil, normal-nil, normal-nought, normal-here, bool_cases, nil_is_poly, from_nil, from-normal, normal_is_poly, normal_low, same_poly}
 use Rattle.tv_terms.proofs.PolyRing.{value_single}
 use Rattle.tv_terms.proofs.PolyReach.{reach-poly_zero, at_reaches, greatest_least, greatest_bounds, reach_at_nought, reach_at_here, poly_reach_is}
 

@@ -1,21 +1,20 @@
 -- The reaches of polynomials: of sums, products and negatives.
-use Rattle.std.proofs.Common.{◌≡◌, ℕ, zero, suc, ◌+◌, ◌-◌, ◌*◌, ◌<◌, ◌≤◌, max, ℤ, pos, ◌+ℤ◌, ◌≤ℤ◌, unsigned_abs, Bool, true, false, if◌then◌else◌, List, [], ◌∷◌, length, refl, sym, ◌∙◌, ap, subst, arith, inl, inr}
+use Rattle.std.proofs.Common.{◌≡◌, ℕ, zero, suc, ◌+◌, ◌-◌, ◌<◌, ◌≤◌, max, ℤ, pos, ◌+ℤ◌, ◌≤ℤ◌, unsigned_abs, true, false, if◌then◌else◌, [], ◌∷◌, length, refl, sym, ◌∙◌, ap, arith, inl, inr}
 use Rattle.std.specs.Int.{int_min}
 use Rattle.std.proofs.lemmas.Int.{ints, clamps}
 use Rattle.std.proofs.lemmas.Bool.{cases_lt}
 use Rattle.tv_ring.specs.Operations.{Operations, RingLaws, SizeLaws}
-use Rattle.tv_ring.specs.Sums.{AreValues, at, sum_below, term, convolution}
+use Rattle.tv_ring.specs.Sums.{AreValues, at, sum_below, term}
 use Rattle.tv_ring.proofs.Rings.{nought-add, mul-nought, nought-mul, neg-nought, neg-neg}
 use Rattle.tv_ring.proofs.Sums.{sum_below-none, sum_below-more, value_sum}
 use Rattle.tv_ring.proofs.Products.{term_is, value_term, convolution_is}
-use Rattle.tv_terms.specs.Terms.{Terms, terms, above, from, known}
+use Rattle.tv_terms.specs.Terms.{Terms, above, from, known}
 use Rattle.tv_terms.specs.Polynomials.{IsPoly, reach_at, greatest_below, poly_reach, poly_zero, poly_one, poly_sum, poly_product, poly_negative}
 use Rattle.tv_terms.proofs.Exponents.{above_is}
-use Rattle.tv_terms.proofs.Listed.{at_past}
-use Rattle.tv_terms.proofs.SeriesFrom.{from_is, value_from}
-use Rattle.tv_terms.proofs.NormalForm.{at-nil, at-first, at-next, bool_cases, nought_is, not_nought, from_place, from_below, from_past, normal_low}
-use Rattle.tv_terms.proofs.PolyFrom.{sum_is_poly, sum_low, from-poly_sum, product_is_poly, product_low, from-poly_product, negative_is_poly, negative_low, from-poly_negative}
-use Rattle.tv_terms.proofs.PolyRing.{poly_laws, one_is_poly, one_low, from-one}
+use Rattle.tv_terms.proofs.SeriesFrom.{value_from}
+use Rattle.tv_terms.proofs.NormalForm.{at-nil, at-first, at-next, bool_cases, not_nought, from_place, from_below, from_past}
+use Rattle.tv_terms.proofs.PolyFrom.{sum_low, from-poly_sum, product_low, from-poly_product, negative_is_poly, negative_low, from-poly_negative}
+use Rattle.tv_terms.proofs.PolyRing.{poly_laws, one_low, from-one}
 
 -- the exponent e and the reach of x, where x is not nought
 abbrev pub Reaches : {A : Type 0} → Operations A → ℤ → A → ℕ → Type 0

@@ -1,5 +1,5 @@
 -- The polynomials over a ring are a ring.
-use Rattle.std.proofs.Common.{◌≡◌, ℕ, zero, suc, ◌+◌, ◌-◌, ◌<◌, ◌≤◌, ℤ, pos, ◌+ℤ◌, ◌≤ℤ◌, true, List, [], ◌∷◌, refl, sym, ◌∙◌, ap, subst, arith}
+use Rattle.std.proofs.Common.{◌≡◌, ℕ, zero, suc, ◌-◌, ℤ, pos, ◌+ℤ◌, ◌≤ℤ◌, true, List, [], ◌∷◌, refl, sym, ◌∙◌, ap, arith}
 use Rattle.std.specs.Int.{int_min}
 use Rattle.std.proofs.lemmas.Int.{ints, clamps}
 use Rattle.tv_ring.specs.Operations.{Operations, RingLaws}
@@ -9,8 +9,7 @@ use Rattle.tv_ring.proofs.Rings.{unit-mul, nought-mul}
 use Rattle.tv_ring.proofs.Sums.{sum-nought}
 use Rattle.tv_ring.proofs.Products.{term_is, convolution_is, convolution-same, convolution-first, convolution-front, convolution_comm, convolution_assoc, convolution-add}
 use Rattle.tv_terms.specs.Terms.{Terms, terms, from}
-use Rattle.tv_terms.specs.Polynomials.{normal, IsPoly, is_empty, poly_zero, poly_one, poly_sum, poly_product, poly_negative, polynomials}
-use Rattle.tv_terms.proofs.Listed.{values_all}
+use Rattle.tv_terms.specs.Polynomials.{IsPoly, is_empty, poly_zero, poly_one, poly_sum, poly_product, poly_negative, polynomials}
 use Rattle.tv_terms.proofs.SeriesFrom.{from_low, value_from}
 use Rattle.tv_terms.proofs.NormalForm.{at-nil, at-first, at-next, nil_is_poly, from_nil, from-normal, normal_is_poly, normal_low, same_poly}
 use Rattle.tv_terms.proofs.PolyFrom.{sum_is_poly, sum_low, from-poly_sum, product_is_poly, product_low, from-poly_product, negative_is_poly, negative_low, from-poly_negative}

@@ -1,5 +1,4 @@
 -- Sizes and reaches of polynomials keep the laws of sizes and reaches.
-use Rattle.std.proofs.Common.{◌≡◌, refl}
 use Rattle.tv_ring.specs.Operations.{Operations, RingLaws, SizeLaws}
 use Rattle.tv_terms.specs.Polynomials.{IsPoly, polynomials}
 use Rattle.tv_terms.proofs.PolySizes.{row_size-nil, size-poly_sum, size-poly_product, size-poly_negative, size-poly_one}

@@ -1,14 +1,14 @@
 -- The sizes of polynomials: of a normal form, and of sums, products and negatives.
-use Rattle.std.proofs.Common.{◌≡◌, ℕ, zero, suc, ◌+◌, ◌-◌, ◌*◌, ◌<◌, ◌≤◌, max, ℤ, pos, ◌+ℤ◌, true, false, List, [], ◌∷◌, ◌++◌, length, refl, sym, ◌∙◌, ap, subst, arith, le_trans, mul-le-mul, mul-add, add-mul}
+use Rattle.std.proofs.Common.{◌≡◌, ℕ, zero, suc, ◌+◌, ◌-◌, ◌*◌, ◌<◌, ◌≤◌, max, ℤ, pos, ◌+ℤ◌, true, List, [], ◌∷◌, ◌++◌, length, refl, sym, ◌∙◌, ap, arith, le_trans, mul-add, add-mul}
 use Rattle.std.specs.Int.{int_min}
 use Rattle.std.proofs.lemmas.Nat.{mul-le}
 use Rattle.tv_ring.specs.Operations.{Operations, RingLaws, SizeLaws}
 use Rattle.tv_ring.specs.Sums.{AreValues, at, convolution, total_below, size_term, size_convolution}
-use Rattle.tv_ring.proofs.Sums.{total_below-none, total_below-more, total_below-same, total_below-≤, total_below-fewer}
+use Rattle.tv_ring.proofs.Sums.{total_below-none, total_below-more, total_below-same, total_below-≤}
 use Rattle.tv_ring.proofs.Products.{size_term_is, size_convolution_is}
 use Rattle.tv_ring.proofs.Sizes.{size-convolution}
-use Rattle.tv_terms.specs.Terms.{Terms, terms, above, padded, from, known, listed, plus}
-use Rattle.tv_terms.specs.Polynomials.{onto, trimmed, normal, negatives, row_size, IsPoly, poly_one, poly_sum, poly_product, poly_negative}
+use Rattle.tv_terms.specs.Terms.{Terms, above, padded, from, known, listed, plus}
+use Rattle.tv_terms.specs.Polynomials.{onto, trimmed, normal, negatives, row_size, poly_one, poly_sum, poly_product, poly_negative}
 use Rattle.tv_terms.proofs.Listed.{listed-none, listed-more, listed_all}
 use Rattle.tv_terms.proofs.Padded.{padded_zero, padded_first, padded_next, plus_is}
 use Rattle.tv_terms.proofs.SeriesFrom.{from_is, value_from, value_listed}

@@ -1,11 +1,11 @@
 -- Sums and products of series are commutative, associative and distributive to the order that both sides know.
-use Rattle.std.proofs.Common.{◌≡◌, ℕ, ◌+◌, ◌<◌, ◌≤◌, min, ℤ, ◌+ℤ◌, ◌≤ℤ◌, length, refl, sym, ◌∙◌, ap, arith}
+use Rattle.std.proofs.Common.{◌≡◌, ℤ, ◌+ℤ◌, ◌≤ℤ◌, refl, sym, ◌∙◌, ap, arith}
 use Rattle.std.specs.Int.{int_min}
 use Rattle.std.proofs.lemmas.Int.{ints, clamps}
 use Rattle.tv_ring.specs.Operations.{Operations, RingLaws}
-use Rattle.tv_ring.specs.Sums.{AreValues, at, convolution}
+use Rattle.tv_ring.specs.Sums.{convolution}
 use Rattle.tv_ring.proofs.Products.{convolution-same, convolution_comm, convolution_assoc, convolution-add}
-use Rattle.tv_terms.specs.Terms.{Terms, above, from, known, plus}
+use Rattle.tv_terms.specs.Terms.{Terms, from}
 use Rattle.tv_terms.specs.Series.{series_sum, series_product}
 use Rattle.tv_terms.specs.SeriesLaws.{SeriesLaws, HasValues}
 use Rattle.tv_terms.proofs.Exponents.{above_is, above_same}

@@ -13,7 +13,7 @@
 --   listed f n          == the list f 0, f 1, .., f (n - 1)
 --   plus r f g          == the sequence of the sums f k + g k
 --   scaled r c f        == the sequence of the products c * f k
-use Rattle.std.specs.Prelude.{ℕ, zero, suc, ◌+◌, ◌*◌, ◌^◌, ◌≤◌, ℤ, pos, negsuc, ◌+ℤ◌, ◌-ℤ◌, unsigned_abs, List, length, map}
+use Rattle.std.specs.Prelude.{ℕ, zero, suc, ◌+◌, ◌≤◌, ℤ, pos, negsuc, ◌+ℤ◌, ◌-ℤ◌, unsigned_abs, List, length, map}
 use Rattle.std.specs.List.{range_with_len}
 use Rattle.tv_ring.specs.Operations.{Operations, reach_limit}
 use Rattle.tv_ring.specs.Sums.{at}

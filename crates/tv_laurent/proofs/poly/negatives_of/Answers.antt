@@ -1,4 +1,4 @@
-use Rattle.std.proofs.Common.{◌≡◌, ◌∙◌, sym}
+use Rattle.std.proofs.Common.{◌∙◌, sym}
 use Rattle.tv_ring.specs.Sums.{at}
 use Rattle.tv_terms.proofs.Listed.{at_read, listed-none, listed_push}
 use Rattle.tv_terms.proofs.PolyFrom.{negatives_is}

@@ -1,4 +1,4 @@
-use Rattle.std.proofs.Common.{◌≡◌, ◌≤◌, ◌+◌, ℕ, ◌+ℤ◌, pos, suc, unsigned_abs, ◌∙◌, ap, arith, refl, sym, max, to_z, of_z, w64}
+use Rattle.std.proofs.Common.{◌≡◌, ◌+◌, suc, ◌∙◌, ap, arith, refl, sym, to_z, of_z, w64}
 use Rattle.std.proofs.lemmas.Int.{ints}
 use Rattle.tv_ring.specs.Sums.{at}
 use Rattle.tv_terms.specs.Polynomials.{greatest_below}

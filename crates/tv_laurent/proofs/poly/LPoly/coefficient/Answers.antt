@@ -1,6 +1,6 @@
-use Rattle.std.proofs.Common.{◌≡◌, ◌<◌, ℤ, pos, ◌+ℤ◌, ◌≤ℤ◌, ◌<ℤ◌, length, arith, inl, inr, to_z, of_z, w64, ◌∙◌, refl}
+use Rattle.std.proofs.Common.{◌≡◌, ◌<◌, length, arith, inr, to_z, of_z, w64, ◌∙◌, refl}
 use Rattle.std.proofs.lemmas.Int.{ints}
-use Rattle.tv_terms.specs.Terms.{terms, above}
+use Rattle.tv_terms.specs.Terms.{above}
 use Rattle.tv_terms.proofs.Exponents.{above_is}
 use Rattle.tv_terms.proofs.Listed.{read_at}
 use Rattle.tv_laurent.proofs.poly.LPoly.coefficient.Goals as goal

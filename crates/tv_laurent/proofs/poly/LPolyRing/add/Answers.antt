@@ -1,4 +1,4 @@
-use Rattle.std.proofs.Common.{◌≡◌, ◌∙◌, ◌+◌, ◌≤◌, max, length, ◌+ℤ◌, arith, ap, ℤ, to_z, of_z, w64, refl}
+use Rattle.std.proofs.Common.{◌≡◌, ◌∙◌, length, arith, ap, to_z, of_z, w64, refl}
 use Rattle.std.specs.Int.{int_min}
 use Rattle.std.proofs.lemmas.Int.{ints, clamps}
 use Rattle.tv_terms.specs.Terms.{terms, above}

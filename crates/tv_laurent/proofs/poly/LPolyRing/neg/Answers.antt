@@ -1,4 +1,4 @@
-use Rattle.std.proofs.Common.{◌≡◌, length, ap, arith, refl, ◌∙◌}
+use Rattle.std.proofs.Common.{length, ap, arith, refl}
 use Rattle.std.proofs.lemmas.Int.{ints}
 use Rattle.tv_terms.specs.Terms.{terms}
 use Rattle.tv_laurent.proofs.PolyResults.{negative_row, length_is}

@@ -1,4 +1,4 @@
-use Rattle.std.proofs.Common.{◌≡◌, ◌≤◌, ◌+◌, length, ℕ, ◌∙◌, ap, arith, refl, le_trans, to_z, of_z, w64}
+use Rattle.std.proofs.Common.{◌≡◌, length, ◌∙◌, ap, arith, le_trans, to_z, of_z, w64}
 use Rattle.std.proofs.lemmas.Int.{ints}
 use Rattle.tv_ring.specs.Sums.{at}
 use Rattle.tv_terms.specs.Terms.{terms}

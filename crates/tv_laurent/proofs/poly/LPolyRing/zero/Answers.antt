@@ -1,4 +1,4 @@
-use Rattle.std.proofs.Common.{◌≡◌, pos, ap}
+use Rattle.std.proofs.Common.{pos, ap}
 use Rattle.tv_terms.specs.Terms.{terms}
 use Rattle.tv_terms.specs.Polynomials.{poly_zero}
 use Rattle.tv_terms.proofs.PolyKept.{same_kept, zero_kept}
