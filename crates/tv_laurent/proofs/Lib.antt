@@ -1,0 +1,5 @@
+pub mod SeriesCalls
+pub mod Convolved
+pub mod Wide
+pub mod SeriesResults
+pub mod PolyResults

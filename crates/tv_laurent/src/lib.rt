@@ -1,0 +1,21 @@
+// Truncated Laurent series and Laurent polynomials over any ring, with exact sums and products.
+// It knows of no classes, no webs and no text.
+#![tactic(auto)]
+
+mod coefficient;
+mod exponents;
+mod fault;
+mod normal;
+mod poly;
+mod products;
+mod series;
+mod sums;
+
+pub use coefficient::Coefficient;
+pub use fault::SeriesFault;
+pub use poly::LPoly;
+pub use series::Series;
+pub use tv_terms::laws;
+
+#[cfg(test)]
+mod tests;

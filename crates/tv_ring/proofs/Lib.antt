@@ -1,0 +1,5 @@
+pub mod Rings
+pub mod Sums
+pub mod Products
+pub mod Times
+pub mod Sizes

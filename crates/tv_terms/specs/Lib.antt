@@ -1,0 +1,4 @@
+pub mod Terms
+pub mod Series
+pub mod SeriesLaws
+pub mod Polynomials

@@ -1,0 +1,19 @@
+// The laws of series and polynomials, as calls that do nothing and whose contracts are the laws.
+// They speak of the same sums and products as the contracts of the calls do.
+
+ghost use Rattle.tv_ring.specs.Operations.{RingLaws, SizeLaws};
+ghost use Rattle.tv_terms.specs.Polynomials.{IsPoly, polynomials};
+ghost use Rattle.tv_terms.specs.SeriesLaws.{SeriesLaws};
+
+use tv_ring::Ring;
+
+/// Sums and products of series are commutative, associative and distributive, to the order that both sides know.
+pub fn series_are_a_ring<C: Ring>()
+    ensures laws { SeriesLaws C.IsValue C.ring }
+{}
+
+/// Laurent polynomials over a ring are a ring, whose sizes and reaches are bounded as a ring's are.
+pub fn polynomials_are_a_ring<C: Ring>()
+    ensures laws { RingLaws (IsPoly C.IsValue C.ring) (polynomials C.ring) }
+    ensures sizes { SizeLaws (IsPoly C.IsValue C.ring) (polynomials C.ring) }
+{}
