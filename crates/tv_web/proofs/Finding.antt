@@ -1,12 +1,12 @@
 -- How the owners of two points are found, one triangle after the other.
 --
 -- left ts a b t == the owners among the triangles from t on
-use Rattle.std.specs.Prelude.{◌≡◌, ℕ, zero, suc, ◌+◌, ◌-◌, ◌<◌, ◌≤◌, Bool, true, false, cond, List, [], ◌∷◌, filter, length}
-use Rattle.std.proofs.Common.{refl, sym, ap, ◌∙◌, subst, arith, add-one}
+use Rattle.std.specs.Prelude.{◌≡◌, ℕ, suc, ◌+◌, ◌-◌, ◌<◌, ◌≤◌, Bool, true, false, cond, List, [], ◌∷◌, filter, length}
+use Rattle.std.proofs.Common.{refl, sym, ap, ◌∙◌, arith, add-one}
 use Rattle.tv_spec_plane.specs.declared.records.Triple.{Triple}
 use Rattle.tv_spec_plane.specs.Web.{numbers_from}
 use Rattle.tv_web.specs.declared.owners.Found.{Found}
-use Rattle.tv_web.specs.declared.owners.Found.TheVariants.{Nothing, One, Two, More}
+use Rattle.tv_web.specs.declared.owners.Found.TheVariants.{Nothing, More}
 use Rattle.tv_web.specs.Found.{owns, owners_in, found_of, and_also, and_all}
 
 pub and_all-more : (ts : List ℕ) → and_all More ts ≡ More

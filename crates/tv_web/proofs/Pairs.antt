@@ -6,7 +6,6 @@ use Rattle.tv_spec_plane.specs.declared.records.CompactEdge.{CompactEdge}
 use Rattle.tv_spec_plane.specs.declared.records.OuterEdge.{OuterEdge}
 use Rattle.tv_spec_plane.specs.Web.{compact_by, outer_by}
 use Rattle.tv_web.specs.declared.owners.Found.{Found}
-use Rattle.tv_web.specs.declared.owners.Found.TheVariants.{Nothing, One, Two, More}
 use Rattle.tv_web.specs.Found.{web_on, owners_in, found_of}
 use Rattle.tv_web.specs.Edges.{compact_of, outer_of, compact_pair, outer_pair, one}
 

@@ -1,6 +1,6 @@
 -- The place of the first item that passes a test, item by item.
-use Rattle.std.specs.Prelude.{◌≡◌, ℕ, zero, suc, ◌+◌, ◌-◌, ◌<◌, ◌≤◌, Bool, true, false, cond, List, [], ◌∷◌, length, drop}
-use Rattle.std.proofs.Common.{refl, sym, ap, ◌∙◌, get_or, drop-cons, arith, add-one}
+use Rattle.std.specs.Prelude.{◌≡◌, ℕ, zero, suc, ◌+◌, ◌<◌, ◌≤◌, Bool, true, false, cond, List, [], ◌∷◌, length, drop}
+use Rattle.std.proofs.Common.{refl, ap, get_or, drop-cons, arith, add-one}
 use Rattle.tv_spec_plane.specs.Web.{place_of}
 
 -- place k: that many items have failed before

@@ -1,4 +1,4 @@
-use Rattle.std.proofs.Common.{◌≡◌, sym, ap, ◌∙◌, length, map, arith}
+use Rattle.std.proofs.Common.{◌≡◌, ap, ◌∙◌, length, map, arith}
 use Rattle.tv_web.specs.Edges.{gathered, compact_row, outer_row}
 use Rattle.tv_web.specs.Corners.{corner_in}
 use Rattle.tv_web.specs.Built.{bare_web}
