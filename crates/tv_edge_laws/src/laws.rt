@@ -1,0 +1,20 @@
+//! Laws of one compact edge: each function does nothing, and its contract is a law.
+
+ghost use Rattle.tv_edge_laws.specs.Laws.{EdgeRule, ClassParity, FlatDegree};
+
+/// Where both triangles of an edge are unimodular and lie on its two sides, exactly one pair of whole numbers meets the
+/// rule of the edge.
+pub fn edge_has_one_rule()
+    ensures { EdgeRule }
+{}
+
+/// The entries of an edge's class at the points whose coordinates are both even add up to a number that is even exactly
+/// where the normal degree is.
+pub fn class_has_parity_of_normal_degree()
+    ensures { ClassParity }
+{}
+
+/// Heights that are a linear function of the point give every edge the degree 0, so the degree is that of the bend alone.
+pub fn flat_heights_have_no_degree()
+    ensures { FlatDegree }
+{}

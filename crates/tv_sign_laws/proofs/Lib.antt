@@ -1,0 +1,3 @@
+pub mod EvenSums
+pub mod Members
+pub mod Signs

@@ -1,0 +1,53 @@
+-- How the owners of two points are found, one triangle after the other.
+--
+-- left ts a b t == the owners among the triangles from t on
+use Rattle.std.specs.Prelude.{◌≡◌, ℕ, suc, ◌+◌, ◌-◌, ◌<◌, ◌≤◌, Bool, true, false, cond, List, [], ◌∷◌, filter, length}
+use Rattle.std.proofs.Common.{refl, sym, ap, ◌∙◌, arith, add-one}
+use Rattle.tv_spec_plane.specs.declared.records.Triple.{Triple}
+use Rattle.tv_spec_plane.specs.Web.{numbers_from}
+use Rattle.tv_web.specs.declared.owners.Found.{Found}
+use Rattle.tv_web.specs.declared.owners.Found.TheVariants.{Nothing, More}
+use Rattle.tv_web.specs.Found.{owns, owners_in, found_of, and_also, and_all}
+
+pub and_all-more : (ts : List ℕ) → and_all More ts ≡ More
+and_all-more [] = refl
+and_all-more (t ∷ ts) = and_all-more ts
+
+pub and_all-nothing : (ts : List ℕ) → and_all Nothing ts ≡ found_of ts
+and_all-nothing [] = refl
+and_all-nothing (t ∷ []) = refl
+and_all-nothing (t ∷ u ∷ []) = refl
+and_all-nothing (t ∷ u ∷ v ∷ ts) = and_all-more ts
+
+pub numbers_from-step : (k n : ℕ) → k < n → numbers_from k (n - k) ≡ k ∷ numbers_from (suc k) (n - suc k)
+numbers_from-step k n h =
+    let e : n - k ≡ suc (n - suc k) = omega arith in
+    ap (numbers_from k) e
+
+pub numbers_from-end : (k n : ℕ) → n ≤ k → numbers_from k (n - k) ≡ []
+numbers_from-end k n h =
+    let e : n - k ≡ 0 = omega arith in
+    ap (numbers_from k) e
+
+unfoldable pub left : List Triple → ℕ → ℕ → ℕ → List ℕ
+left ts a b t = filter (owns ts a b) (numbers_from t (length ts - t))
+
+and_all-cond : (f : Found) (t : ℕ) (ts : List ℕ) (test : Bool) → and_all (cond test (and_also f t) f) ts ≡ and_all f (cond test (t ∷ ts) ts)
+and_all-cond f t ts true = refl
+and_all-cond f t ts false = refl
+
+-- before the first triangle, over one, and behind the last
+pub finds_first : (ts : List Triple) (a b : ℕ) → and_all Nothing (left ts a b 0) ≡ found_of (owners_in ts a b)
+unfolding left owners_in
+finds_first ts a b =
+    let whole : length ts - 0 ≡ length ts = omega arith in
+    and_all-nothing (left ts a b 0) ∙ ap (λ n. found_of (filter (owns ts a b) (numbers_from 0 n))) whole
+
+pub finds_next : (ts : List Triple) (a b t : ℕ) (f g whole : Found) → t < length ts → g ≡ cond (owns ts a b t) (and_also f t) f → and_all f (left ts a b t) ≡ whole → and_all g (left ts a b (t + 1)) ≡ whole
+unfolding left
+finds_next ts a b t f g whole h e was =
+    rw (add-one, e) (and_all-cond f t (filter (owns ts a b) (numbers_from (suc t) (length ts - suc t))) (owns ts a b t) ∙ (sym (ap (λ ns. and_all f (filter (owns ts a b) ns)) (numbers_from-step t (length ts) h)) ∙ was))
+
+pub finds_last : (ts : List Triple) (a b t : ℕ) (f whole : Found) → length ts ≤ t → and_all f (left ts a b t) ≡ whole → f ≡ whole
+unfolding left
+finds_last ts a b t f whole h was = sym (ap (λ ns. and_all f (filter (owns ts a b) ns)) (numbers_from-end t (length ts) h)) ∙ was

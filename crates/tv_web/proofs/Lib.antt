@@ -1,0 +1,5 @@
+pub mod Finding
+pub mod Gathering
+pub mod Pairs
+pub mod Places
+pub mod Lists

@@ -1,0 +1,16 @@
+use Rattle.std.proofs.Common.{sym}
+use Rattle.tv_web.specs.Corners.{names_compact}
+use Rattle.tv_web.proofs.Places.{places_first, places_here, places_next, places_last}
+use Rattle.tv_web.proofs.corners.compact_place.Goals as goal
+
+pub loop-k-init : goal.loop-k-init
+loop-k-init c = places_first (names_compact c.args.a c.args.b) c.args.compact.now
+
+pub returns-then-names_compact : goal.returns-then-names_compact
+returns-then-names_compact c = places_here (names_compact c.args.a c.args.b) c.args.compact.now c.loop-k.k _ (record { a = 0; b = 0; c = 0; d = 0; corner_c = 0; corner_d = 0 }) c.loop-k-test.true (sym c.if-names_compact.ensures) c.loop-k.invariant
+
+pub loop-k-preserved : goal.loop-k-preserved
+loop-k-preserved c = places_next (names_compact c.args.a c.args.b) c.args.compact.now c.loop-k.k _ (record { a = 0; b = 0; c = 0; d = 0; corner_c = 0; corner_d = 0 }) c.loop-k-test.true (sym c.if-names_compact.ensures) c.loop-k.invariant
+
+pub returns : goal.returns
+returns c = places_last (names_compact c.args.a c.args.b) c.args.compact.now c.loop-k.k _ c.loop-k-test.false c.loop-k.auto.k-end c.loop-k.invariant

@@ -1,0 +1,24 @@
+-- What the lists of a built web are.
+--
+-- bare_web ps ts == the web of these points and triangles, without heights
+-- IsBuilt w cs os ks == at most 64 points and 128 triangles, and the lists are the compact edges, the open edges, of which
+--                       there are at most 4096 each, and the corners
+use Rattle.std.specs.Prelude.{◌≡◌, ◌≤◌, List, [], length}
+use Rattle.tv_spec_plane.specs.declared.records.Triple.{Triple}
+use Rattle.tv_spec_plane.specs.declared.records.CompactEdge.{CompactEdge}
+use Rattle.tv_spec_plane.specs.declared.records.OuterEdge.{OuterEdge}
+use Rattle.tv_spec_plane.specs.declared.records.Corner.{Corner}
+use Rattle.tv_spec_plane.specs.Plane.{Point}
+use Rattle.tv_spec_plane.specs.Web.{Web, compact, outer, corners}
+
+abbrev pub bare_web : List Point → List Triple → Web
+bare_web ps ts = record { points = ps; triangles = ts; heights = [] }
+
+pub record IsBuilt (w : Web) (cs : List CompactEdge) (os : List OuterEdge) (ks : List Corner) : Type 0 where
+  pub few_points : length w.points ≤ 64
+  pub few_triangles : length w.triangles ≤ 128
+  pub few_compact : length cs ≤ 4096
+  pub few_outer : length os ≤ 4096
+  pub compact_is : cs ≡ compact w
+  pub outer_is : os ≡ outer w
+  pub corners_is : ks ≡ corners w

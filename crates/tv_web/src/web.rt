@@ -1,0 +1,93 @@
+//! The web of points and triangles, with its edges and corners as lists. It carries no heights.
+
+ghost use Rattle.std.specs.Prelude.{◌≡◌, ◌≤◌, length, IfOk, vec_len};
+ghost use Rattle.tv_spec_plane.specs.Web.{compact, outer, corners};
+ghost use Rattle.tv_web.specs.Built.{bare_web};
+
+use crate::corners::corners_of;
+use crate::edges::{Edges, edges_of};
+use std::alloc::{AllocError, Global};
+use std::marker::Model;
+use tv_lattice::point::Point;
+use tv_spec_plane::records::{CompactEdge, Corner, OuterEdge, Triple};
+
+/// Points and triangles with the edges and corners that they make.
+#[derive(Drop)]
+pub struct Web {
+    points: Vec<Point>,
+    triangles: Vec<Triple>,
+    compact: Vec<CompactEdge>,
+    outer: Vec<OuterEdge>,
+    corners: Vec<Corner>,
+}
+
+impl Model for Web {
+    ghost use Rattle.tv_spec_plane.specs.Web.{Web as WebValue};
+    ghost use Rattle.tv_web.specs.Built.{bare_web, IsBuilt};
+
+    ghost Value = { WebValue };
+
+    ghost view = { λ w. bare_web w.points.items w.triangles.items };
+
+    ghost invariant = { λ w. IsBuilt (bare_web w.points.items w.triangles.items) w.compact.items w.outer.items w.corners.items };
+}
+
+/// The web of at most 64 points and 128 triangles.
+pub fn build_web(
+    alloc: Global,
+    points: Vec<Point>,
+    triangles: Vec<Triple>,
+) -> Result<Web, AllocError>
+    requires few_points { vec_len points ≤ 64 }
+    requires few_triangles { vec_len triangles ≤ 128 }
+    ensures { IfOk result (λ web. web ≡ bare_web points.items triangles.items) }
+{
+    let Edges { compact, outer } = edges_of(alloc, &triangles, points.len() as u32)?;
+    let corners = corners_of(alloc, &triangles, &compact, &outer)?;
+    Ok(Web {
+        points,
+        triangles,
+        compact,
+        outer,
+        corners,
+    })
+}
+
+impl Web {
+    pub fn points(&self) -> &[Point]
+        ensures value { result.now ≡ self.now.points }
+        ensures few { length result.now ≤ 64 }
+    {
+        &self.points
+    }
+
+    pub fn triangles(&self) -> &[Triple]
+        ensures value { result.now ≡ self.now.triangles }
+        ensures few { length result.now ≤ 128 }
+    {
+        &self.triangles
+    }
+
+    /// The edges of two triangles, in the order of their points.
+    pub fn compact(&self) -> &[CompactEdge]
+        ensures value { result.now ≡ compact self.now }
+        ensures few { length result.now ≤ 4096 }
+    {
+        &self.compact
+    }
+
+    /// The edges of one triangle, in the order of their points.
+    pub fn outer(&self) -> &[OuterEdge]
+        ensures value { result.now ≡ outer self.now }
+        ensures few { length result.now ≤ 4096 }
+    {
+        &self.outer
+    }
+
+    /// One for each triangle, in their order.
+    pub fn corners(&self) -> &[Corner]
+        ensures { result.now ≡ corners self.now }
+    {
+        &self.corners
+    }
+}
