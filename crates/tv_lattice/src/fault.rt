@@ -1,4 +1,4 @@
-//! Why a file is refused. Each fault has its number and its line of text elsewhere.
+//! Why a file or a report is refused. Each fault has its number and its line of text elsewhere.
 
 use std::alloc::{AllocError, AllocFailed};
 use thiserror::Error;
@@ -28,6 +28,15 @@ pub enum FileFault {
     Bare(u32, u32),
     HeightCount(u64),
     Degree(u32, u32, i64),
+}
+
+/// Why bytes are no report: there are too many, or the first line that no report has there.
+#[derive(Clone, Copy, Debug, PartialEq, Eq, Error)]
+pub enum ReportFault {
+    #[error("the report is too long")]
+    TooLong,
+    #[error("line {0} is not in the grammar of reports")]
+    Line(u32),
 }
 
 /// Why an input is not accepted: a fault of its own, or want of memory.
