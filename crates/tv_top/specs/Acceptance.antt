@@ -5,6 +5,8 @@
 --                        line, the triangles are unimodular and tile the hull, and there are as many heights as points
 -- HasMesh w           == the points and triangles pass their checks
 -- IsSound w           == what the checks of triangles and heights leave of a web: with one triangle it is one corner
+-- HasOtherHeights w k == the triangles tile, and there are k heights, not one for each point
+-- IsUnsoundBy w f     == f is the first of these checks that fails
 -- IsUnsound w e       == e is the first of these checks that fails, or want of memory
 use Rattle.std.specs.Prelude.{◌≡◌, ◌≢◌, ℕ, List, [], ◌∷◌, length, Bool, false, ◌||◌, nat_eq, ⊤}
 use Rattle.tv_spec_plane.specs.Web.{Web}

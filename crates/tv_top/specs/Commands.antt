@@ -2,6 +2,7 @@
 --
 -- IsOrder z      == a number from -64 to 64
 -- series_words N == the words `series full 0 N`
+-- IsSeries ws N  == the words of the series through an order N
 -- IsCommand ws   == the words of some command
 -- Asks ws c      == the words ask for the command
 -- IsWordsError ws e == e is the first place at which the words leave every word list

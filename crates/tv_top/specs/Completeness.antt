@@ -4,6 +4,7 @@
 --   accepted: a command and an accepted file of one triangle give Done, or Wide with its cause, or want of memory
 --   refused:  a command and a file that is refused give File, or want of memory
 --   words:    words that are no command give Words, or want of memory, whatever the source holds
+-- NothingFails io out == no count of faults rose in the call, and none stood at its last number
 use Rattle.std.specs.Prelude.{◌≡◌, ◌⊎◌, ℕ, ℤ, List, Some, length}
 use Rattle.tv_spec_plane.specs.Web.{Web}
 use Rattle.tv_spec_text.specs.Lines.{Word}
@@ -17,7 +18,6 @@ use Rattle.tv_top.specs.declared.acceptance.Rejection.{Rejection}
 use Rattle.tv_top.specs.declared.status.Status.{Status}
 use Rattle.tv_top.specs.declared.status.Status.TheVariants.{Done, Words, File, Wide, Memory}
 
--- no count of faults rose, or stands at its last number
 pub record NothingFails (io : Inputs) (out : Outputs) : Type 0 where
   pub reads : Rose io.faults_before io.faults_after → ⊥
   pub writes : Rose out.faults_before out.faults_after → ⊥

@@ -2,6 +2,7 @@
 --
 -- IsWebFault bytes f  == f is the first check of points, triangles and heights that fails, of a text within the limits
 -- FaultOf bytes f     == f is the first check that the bytes fail: too long, JSON, the text and its limits, the web
+-- HasOtherTriangles bytes == the file is accepted and has not exactly one triangle
 -- IsRejected bytes r  == the same, or the file is accepted and has not exactly one triangle
 -- IsRefused bytes e   == e is such a refusal by a check, or want of memory
 use Rattle.std.specs.Prelude.{◌≡◌, ◌≢◌, ℕ, ◌<◌, ◌≤◌, List, length, true, false, ⊤}

@@ -77,6 +77,9 @@ fn names_the_first_failing_edge(rt: HostRuntime) -> Result<(), Fail> {
     let a = rt.alloc();
     let crossed = [(0, 1, 2), (0, 2, 3), (0, 1, 3)];
     assert_eq!(rt; fault(a, &SQUARE, &crossed)?, FileFault::Twice(0, 2));
+    // Two triangles whose areas add up to that of the square, and which overlap.
+    let overlapping = [(0, 1, 2), (0, 1, 3)];
+    assert_eq!(rt; fault(a, &SQUARE, &overlapping)?, FileFault::Twice(0, 1));
     assert_eq!(rt;
         fault(a, &SQUARE, &[(0, 1, 2)])?,
         FileFault::Unmatched(2, 0)
