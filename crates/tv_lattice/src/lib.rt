@@ -1,6 +1,7 @@
 //! Points of the plane, the data of files, classes, and the faults of files. Nothing here reads bytes.
 #![tactic(auto)]
 
+pub mod class;
 pub mod excess;
 pub mod fault;
 pub mod file;
