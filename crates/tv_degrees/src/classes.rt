@@ -1,8 +1,7 @@
 //! The class of a compact edge: 1 at its two opposite points and the normal degrees at its own two. Heights play no part.
 
-ghost use Rattle.std.specs.Prelude.{◌≡◌, ◌≤◌, ◌<◌, ◌-ℤ◌, pos, neg_ℤ, length, unsigned_abs, IfOk, slice_index_or};
-ghost use Rattle.tv_spec_plane.specs.Plane.{at};
-ghost use Rattle.tv_spec_plane.specs.Web.{compact, edge_ratio, normal_a, normal_b, class_entry, edge_class};
+ghost use Rattle.std.specs.Prelude.{◌≡◌, ◌≤◌, ◌<◌, ◌-ℤ◌, pos, neg_ℤ, length, unsigned_abs, map, IfOk};
+ghost use Rattle.tv_spec_plane.specs.Web.{compact, edge_ratio, edge_class, below};
 ghost use Rattle.tv_lattice.specs.Classes.{IsEntry};
 ghost use Rattle.tv_degrees.specs.Edges.{edge_at, entry_by};
 
@@ -33,10 +32,25 @@ pub fn class_of(alloc: Global, web: &Web, edge: CompactEdge) -> Result<Class, Al
     ensures { IfOk result (λ class. class ≡ edge_class web.now edge) }
 {
     let ratio = edge_ratio(web, edge);
-    let a = normal_a(ratio);
-    let b = normal_b(ratio);
+    let count = web.points().len() as u32;
+    entries_of(alloc, edge, normal_a(ratio), normal_b(ratio), count)
+}
+
+// The class among so many points, by the normal degrees of the edge.
+fn entries_of(
+    alloc: Global,
+    edge: CompactEdge,
+    a: i64,
+    b: i64,
+    count: u32,
+) -> Result<Class, AllocError>
+    requires few { count ≤ 64 }
+    requires first { IsEntry a }
+    requires second { IsEntry b }
+    ensures { IfOk result (λ class. class ≡ map (entry_by edge a b) (below count)) }
+{
     let mut entries = Vec::new(alloc);
-    for k in 0..web.points().len() as u32 {
+    for k in 0..count {
         entries.push(entry(edge, a, b, k))?;
     }
     Ok(Class::new(entries))

@@ -30,7 +30,13 @@ fn degree_of(web: &Web, edge: CompactEdge, heights: &[i64]) -> i64
 {
     let ratio = classes::edge_ratio(web, edge);
     let count = web.points().len() as u32;
-    sum_of(heights, edge, classes::normal_a(ratio), classes::normal_b(ratio), count)
+    sum_of(
+        heights,
+        edge,
+        classes::normal_a(ratio),
+        classes::normal_b(ratio),
+        count,
+    )
 }
 
 // The sum over the points below count, by the normal degrees of the edge.

@@ -34,7 +34,10 @@ pub fn grades_of(alloc: Global, web: &Web, heights: &[i64]) -> Result<Grades, De
     };
     let edges = web.compact();
     for k in 0..edges.len() {
-        push_grade(&mut grades, alloc, web, heights, edges[k])?;
+        match push_grade(&mut grades, alloc, web, heights, edges[k]) {
+            Ok(()) => {}
+            Err(fault) => return Err(fault),
+        }
     }
     Ok(grades)
 }
@@ -75,7 +78,6 @@ fn degree_of(class: &Class, web: &Web, heights: &[i64], edge: CompactEdge) -> i6
     requires same { class.now ≡ edge_class (with_heights web.now heights.now) edge }
     ensures { result ≡ edge_degree (with_heights web.now heights.now) edge }
 {
-    let _points = web.points();
     class.degree(heights)
 }
 

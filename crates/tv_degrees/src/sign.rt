@@ -1,14 +1,13 @@
 //! The sign that every configuration of a class and Euler characteristic has. It sees no configuration.
 
-ghost use Rattle.std.specs.Prelude.{◌≡◌, ◌≤◌, ◌<◌, ◌+◌, ◌*◌, pos, negsuc, ◌+ℤ◌, length, cond, unsigned_abs, slice_index_or};
+ghost use Rattle.std.specs.Prelude.{◌≡◌, ◌≤◌, ◌<◌, ◌+◌, ◌*◌, pos, negsuc, ◌+ℤ◌, length, cond, unsigned_abs};
 ghost use Rattle.tv_spec_plane.specs.Web.{class_sign, even_sum, is_even_point, parity};
 ghost use Rattle.tv_lattice.specs.Classes.{IsEntry, IsEntries};
 
-use tv_lattice::class::Class;
-use tv_lattice::point::Point;
+use tv_lattice::class::{self, Class};
+use tv_lattice::point::{self, Point};
 
 /// 1 where chi and the sum of the entries at the points whose coordinates are both even are together even, else -1.
-#[tactic(auto, using(crate::proofs::Signs::signs))]
 pub fn sign(points: &[Point], class: &Class, chi: i64) -> i64
     requires { length points.now ≡ length class.now }
     ensures { result ≡ class_sign points.now class.now chi }
@@ -32,19 +31,11 @@ fn even_sum(points: &[Point], entries: &[i64]) -> i64
     ensures { result ≡ even_sum points.now entries.now }
 {
     let mut total = 0;
-    for (k, point) in points.iter().enumerate() {
-        total = with_entry(total, *point, entry_at(entries, k));
+    for k in 0..points.len() {
+        let point = point::at(points, k as u32);
+        total = with_entry(total, point, class::entry_at(entries, k));
     }
     total
-}
-
-fn entry_at(entries: &[i64], k: usize) -> i64
-    requires within { k < length entries.now }
-    requires limits { IsEntries entries.now }
-    ensures value { result ≡ slice_index_or entries.now k (pos 0) }
-    ensures limit { IsEntry result }
-{
-    entries[k]
 }
 
 fn with_entry(total: i64, point: Point, entry: i64) -> i64
