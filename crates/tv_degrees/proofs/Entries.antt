@@ -64,18 +64,6 @@ entries-length f n = numbers-length f 0 n
 pub edge_class-by : (w : Web) (e : CompactEdge) (m n : ℤ) (count : ℕ) → m ≡ edge_ratio w e -ℤ pos 2 → n ≡ neg_ℤ (edge_ratio w e) → count ≡ length w.points → map (entry_by e m n) (below count) ≡ edge_class w e
 edge_class-by w e m n count first second same = ap (λ (i : ℤ). map (entry_by e i n) (below count)) first ∙ (ap (λ (i : ℤ). map (entry_by e (edge_ratio w e -ℤ pos 2) i) (below count)) second ∙ ap (λ i. map (entry_by e (edge_ratio w e -ℤ pos 2) (neg_ℤ (edge_ratio w e))) (below i)) same)
 
--- heights change no class and no list of edges
-pub edge_class-heights : (w : Web) (hs : List ℤ) (e : CompactEdge) → edge_class (with_heights w hs) e ≡ edge_class w e
-unfolding edge_ratio
-edge_class-heights w hs e = refl
-
-pub compact-heights : (w : Web) (hs : List ℤ) → compact (with_heights w hs) ≡ compact w
-unfolding compact
-compact-heights w hs = refl
-
-pub edge_degree-heights : (w : Web) (hs : List ℤ) (e : CompactEdge) → degree_of hs (edge_class w e) ≡ edge_degree (with_heights w hs) e
-edge_degree-heights w hs e = ap (degree_of hs) (sym (edge_class-heights w hs e))
-
 pub length-edge_class : (w : Web) (e : CompactEdge) → length (edge_class w e) ≡ length w.points
 length-edge_class w e = entries-length _ (length w.points)
 

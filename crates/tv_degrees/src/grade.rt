@@ -3,7 +3,7 @@
 
 ghost use Rattle.std.specs.Prelude.{◌≡◌, ◌<◌, ◌<ℤ◌, pos, length, vec_len, MatchResult};
 ghost use Rattle.std.specs.List.{AllByRecursion};
-ghost use Rattle.tv_spec_plane.specs.Web.{compact, edge_class, edge_degree};
+ghost use Rattle.tv_spec_plane.specs.Web.{compact, outer, corners, edge_class, edge_degree};
 ghost use Rattle.tv_lattice.specs.Limits.{IsHeight};
 ghost use Rattle.tv_degrees.specs.Edges.{edge_at, with_heights};
 ghost use Rattle.tv_degrees.specs.Grades.{IsGraded, IsDegreeFault, IsHeighted};
@@ -53,7 +53,10 @@ pub fn grade(alloc: Global, web: Web, heights: Vec<i64>) -> Result<GradedWeb, De
 
 impl GradedWeb {
     pub fn web(&self) -> &Web
-        ensures { with_heights result.now self.now.heights ≡ self.now }
+        ensures value { with_heights result.now self.now.heights ≡ self.now }
+        ensures same_compact { compact result.now ≡ compact self.now }
+        ensures same_outer { outer result.now ≡ outer self.now }
+        ensures same_corners { corners result.now ≡ corners self.now }
     {
         &self.web
     }

@@ -1,7 +1,8 @@
 use Rattle.std.proofs.Common.{rules, ap, ◌∙◌, length, w64, FitsSigned, arith}
 use Rattle.std.proofs.lemmas.Int.{to_z-of_z}
 use Rattle.tv_lattice.proofs.Sums.{small-fits, entry-fits}
-use Rattle.tv_degrees.proofs.Entries.{edge_class-by, edge_degree-heights}
+use Rattle.tv_degrees.proofs.Entries.{edge_class-by}
+use Rattle.tv_degrees.proofs.Heights.{edge_degree-heights}
 use Rattle.tv_degrees.proofs.degrees.degree_of.Goals as goal
 
 pub returns : goal.returns

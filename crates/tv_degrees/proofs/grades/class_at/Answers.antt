@@ -1,5 +1,5 @@
 use Rattle.std.proofs.Common.{sym, ◌∙◌}
-use Rattle.tv_degrees.proofs.Entries.{edge_class-heights}
+use Rattle.tv_degrees.proofs.Heights.{edge_class-heights}
 use Rattle.tv_degrees.proofs.grades.class_at.Goals as goal
 
 pub returns : goal.returns

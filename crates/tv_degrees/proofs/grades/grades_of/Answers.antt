@@ -1,6 +1,6 @@
 use Rattle.std.proofs.Common.{sym, ◌∙◌}
 use Rattle.tv_degrees.specs.Edges.{with_heights}
-use Rattle.tv_degrees.proofs.Entries.{compact-heights}
+use Rattle.tv_degrees.proofs.Heights.{compact-heights}
 use Rattle.tv_degrees.proofs.Graded.{grades_last, grades_fault}
 use Rattle.tv_degrees.proofs.grades.grades_of.Goals as goal
 
