@@ -1,16 +1,16 @@
 -- The entries of a class, one point after the other.
 --
 -- entries_from e m n k count == the entries from point k on
-use Rattle.std.specs.Prelude.{◌≡◌, ℕ, zero, suc, ◌+◌, ◌-◌, ◌<◌, ◌≤◌, ℤ, pos, ◌+ℤ◌, ◌-ℤ◌, ◌*ℤ◌, neg_ℤ, List, [], ◌∷◌, ◌++◌, map, length, unsigned_abs}
+use Rattle.std.specs.Prelude.{◌≡◌, ℕ, zero, suc, ◌+◌, ◌-◌, ◌<◌, ◌≤◌, ℤ, pos, ◌+ℤ◌, ◌-ℤ◌, ◌*ℤ◌, neg_ℤ, List, [], ◌∷◌, ◌++◌, map, length}
 use Rattle.std.specs.List.{AllByRecursion}
 use Rattle.std.proofs.Common.{refl, sym, ap, subst, ◌∙◌, get_or, append_assoc, append-nil, length-append, arith, add-one}
 use Rattle.tv_spec_plane.specs.declared.records.CompactEdge.{CompactEdge}
-use Rattle.tv_spec_plane.specs.Web.{Web, numbers_from, below, edge_ratio, edge_class, edge_degree, compact, degree_of}
+use Rattle.tv_spec_plane.specs.Web.{Web, numbers_from, below, edge_ratio, edge_class}
 use Rattle.tv_lattice.specs.Classes.{IsEntry, IsEntries}
 use Rattle.tv_lattice.proofs.Each.{each_push}
 use Rattle.tv_lattice.proofs.Sums.{degree_from, degree_from-next}
 use Rattle.tv_web.proofs.Finding.{numbers_from-step, numbers_from-end}
-use Rattle.tv_degrees.specs.Edges.{entry_by, with_heights}
+use Rattle.tv_degrees.specs.Edges.{entry_by}
 
 unfoldable pub entries_from : CompactEdge → ℤ → ℤ → ℕ → ℕ → List ℤ
 entries_from e m n k count = map (entry_by e m n) (numbers_from k (count - k))

@@ -1,5 +1,5 @@
 -- The grades of edges, one edge after the other.
-use Rattle.std.specs.Prelude.{◌≡◌, ℕ, zero, suc, ◌+◌, ◌<◌, ◌≤◌, ℤ, pos, ◌<ℤ◌, List, [], ◌∷◌, ◌++◌, map, length, take, ⊤}
+use Rattle.std.specs.Prelude.{◌≡◌, ℕ, zero, suc, ◌+◌, ◌<◌, ◌≤◌, ℤ, pos, ◌<ℤ◌, List, [], ◌∷◌, ◌++◌, map, length, take}
 use Rattle.std.specs.List.{AllByRecursion}
 use Rattle.std.proofs.Common.{refl, sym, ap, subst, ◌∙◌, get_or, arith}
 use Rattle.std.proofs.lemmas.List.{take_more}
@@ -10,7 +10,7 @@ use Rattle.tv_lattice.proofs.Each.{each_take_more, each_at}
 use Rattle.tv_degrees.specs.declared.fault.DegreeFault.{DegreeFault}
 use Rattle.tv_degrees.specs.declared.fault.DegreeFault.TheVariants.{Degree, Memory}
 use Rattle.tv_degrees.specs.Edges.{no_edge, edge_at}
-use Rattle.tv_degrees.specs.Grades.{HasDegree, IsLow, IsFirstLow, IsDegreeFault, AreGrades, IsPushed}
+use Rattle.tv_degrees.specs.Grades.{HasDegree, IsLow, IsDegreeFault, AreGrades, IsPushed}
 
 map-push : {A B : Type 0} (f : A → B) (xs : List A) (x : A) → map f (xs ++ x ∷ []) ≡ map f xs ++ f x ∷ []
 map-push f [] x = refl

@@ -1,7 +1,7 @@
 -- The sign by two parities, and the sum over the even points, one point after the other.
 --
 -- even_from ps v k == the sum over the even points from place k on
-use Rattle.std.specs.Prelude.{◌≡◌, ℕ, zero, suc, ◌+◌, ◌<◌, ◌≤◌, ◌%◌, ◌⊎◌, Bool, true, false, cond, ℤ, pos, negsuc, ◌+ℤ◌, List, [], ◌∷◌, length, drop, nat_eq, unsigned_abs}
+use Rattle.std.specs.Prelude.{◌≡◌, ℕ, zero, suc, ◌+◌, ◌<◌, ◌≤◌, ◌%◌, ◌⊎◌, Bool, cond, ℤ, pos, negsuc, ◌+ℤ◌, List, [], ◌∷◌, length, drop, nat_eq, unsigned_abs}
 use Rattle.std.proofs.Common.{refl, sym, ap, ◌∙◌, inl, inr, get_or, drop-cons, arith, add-one}
 use Rattle.std.proofs.lemmas.Int.{ints}
 use Rattle.tv_spec_plane.specs.Plane.{Point, at}
