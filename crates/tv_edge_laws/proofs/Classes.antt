@@ -33,7 +33,7 @@ turn-last a b =
     let r = diff_of a.x in let s = diff_of a.y in let v = diff_of b.x in let w = diff_of b.y in
     rw (r.2, s.2, v.2, w.2, diff-pos 0) (simp diffs (diff-same _ _ _ _ (omega arith)))
 
-turn-other : (a b c : Point) → turn b a c ≡ neg_ℤ (turn a b c)
+pub turn-other : (a b c : Point) → turn b a c ≡ neg_ℤ (turn a b c)
 unfolding turn
 turn-other a b c =
     let r = diff_of a.x in let s = diff_of a.y in let t = diff_of b.x in let u = diff_of b.y in let v = diff_of c.x in let w = diff_of c.y in
@@ -52,13 +52,13 @@ not_opposite a b c d (inl ones) e = absurd (omega (arith, ints, ones.0, ones.1, 
 not_opposite a b c d (inr minus) e = absurd (omega (arith, ints, minus.0, minus.1, rw (minus.0, minus.1) at e))
 
 -- a turn of listed points, by two equal numbers
-same_ab : (ps : List Point) (i j k : ℕ) → i ≡ j → turn (at ps i) (at ps j) (at ps k) ≡ pos 0
+pub same_ab : (ps : List Point) (i j k : ℕ) → i ≡ j → turn (at ps i) (at ps j) (at ps k) ≡ pos 0
 same_ab ps i j k e = ap (λ (m : ℕ). turn (at ps i) (at ps m) (at ps k)) (sym e) ∙ turn-first (at ps i) (at ps k)
 
-same_ac : (ps : List Point) (i j k : ℕ) → i ≡ k → turn (at ps i) (at ps j) (at ps k) ≡ pos 0
+pub same_ac : (ps : List Point) (i j k : ℕ) → i ≡ k → turn (at ps i) (at ps j) (at ps k) ≡ pos 0
 same_ac ps i j k e = ap (λ (m : ℕ). turn (at ps i) (at ps j) (at ps m)) (sym e) ∙ turn-return (at ps i) (at ps j)
 
-same_bc : (ps : List Point) (i j k : ℕ) → j ≡ k → turn (at ps i) (at ps j) (at ps k) ≡ pos 0
+pub same_bc : (ps : List Point) (i j k : ℕ) → j ≡ k → turn (at ps i) (at ps j) (at ps k) ≡ pos 0
 same_bc ps i j k e = ap (λ (m : ℕ). turn (at ps i) (at ps j) (at ps m)) (sym e) ∙ turn-last (at ps i) (at ps j)
 
 same_cd : (ps : List Point) (i j k l : ℕ) → k ≡ l → turn (at ps j) (at ps i) (at ps l) ≡ neg_ℤ (turn (at ps i) (at ps j) (at ps k))

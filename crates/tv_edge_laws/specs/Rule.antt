@@ -5,10 +5,12 @@
 -- ratio a b c d       == the r of the rule
 -- IsOnlyRule a b c d p r == p and r meet the rule, and no other whole numbers do
 -- HasRule w e         == the four points of the edge are listed and its triangles are such
+-- HasEdgeRule w       == every compact edge is such
 use Rattle.std.specs.Prelude.{◌≡◌, ◌<◌, ◌⊎◌, ℤ, pos, negsuc, ◌+ℤ◌, ◌*ℤ◌, length}
+use Rattle.std.specs.List.{AllByRecursion}
 use Rattle.tv_spec_plane.specs.declared.records.CompactEdge.{CompactEdge}
 use Rattle.tv_spec_plane.specs.Plane.{Point, at, turn}
-use Rattle.tv_spec_plane.specs.Web.{Web}
+use Rattle.tv_spec_plane.specs.Web.{Web, compact}
 
 abbrev pub HasSides : Point → Point → Point → Point → Type 0
 HasSides a b c d = ((turn a b c ≡ pos 1) × (turn b a d ≡ pos 1)) ⊎ ((turn a b c ≡ negsuc 0) × (turn b a d ≡ negsuc 0))
@@ -31,3 +33,6 @@ pub record HasRule (w : Web) (e : CompactEdge) : Type 0 where
   pub c : e.c < length w.points
   pub d : e.d < length w.points
   pub sides : HasSides (at w.points e.a) (at w.points e.b) (at w.points e.c) (at w.points e.d)
+
+abbrev pub HasEdgeRule : Web → Type 0
+HasEdgeRule w = AllByRecursion (HasRule w) (compact w)

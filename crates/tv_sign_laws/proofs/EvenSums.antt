@@ -9,11 +9,11 @@ use Rattle.tv_spec_plane.specs.Web.{Web, compact, even_sum, is_even_point, edge_
 use Rattle.tv_lemmas.proofs.Integers.{mul-swap}
 use Rattle.tv_partition.specs.Rows.{size}
 use Rattle.tv_spec_boxes.specs.Assignments.{Assignment, zeros, plus, times, class_on, twist_on, class_of, edge_twist}
-use Rattle.tv_edge_laws.specs.Rule.{HasRule}
+use Rattle.tv_edge_laws.specs.Rule.{HasRule, HasEdgeRule}
 use Rattle.tv_edge_laws.proofs.Ring.{mul-add}
 use Rattle.tv_edge_laws.proofs.Parity.{is_even, eqv, is_even-add, is_even-mul, same_parity}
 use Rattle.tv_edge_laws.proofs.Classes.{class-even}
-use Rattle.tv_sign_laws.specs.Laws.{HasEdgeRule, TwistParity}
+use Rattle.tv_sign_laws.specs.Laws.{TwistParity}
 
 cond-add : (b : Bool) (x y : ℤ) → cond b (x +ℤ y) (pos 0) ≡ cond b x (pos 0) +ℤ cond b y (pos 0)
 cond-add true x y = refl

@@ -6,9 +6,10 @@ use Rattle.std.proofs.lemmas.Int.{ints}
 use Rattle.tv_spec_plane.specs.Web.{Web, even_sum, class_sign}
 use Rattle.tv_spec_boxes.specs.Assignments.{Rows, class_of, edge_twist}
 use Rattle.tv_spec_boxes.specs.Configurations.{Configuration, chi_of, configuration_sign, configurations, total, signed_count}
+use Rattle.tv_edge_laws.specs.Rule.{HasEdgeRule}
 use Rattle.tv_edge_laws.proofs.Ring.{mul-add}
 use Rattle.tv_edge_laws.proofs.Parity.{is_even, eqv, is_even-add}
-use Rattle.tv_sign_laws.specs.Laws.{HasEdgeRule, ConfigurationSign, OneSign, CountedSign}
+use Rattle.tv_sign_laws.specs.Laws.{ConfigurationSign, OneSign, CountedSign}
 use Rattle.tv_sign_laws.proofs.EvenSums.{class_of-even}
 use Rattle.tv_sign_laws.proofs.Members.{IsOf, configurations_are}
 

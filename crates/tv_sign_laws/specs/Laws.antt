@@ -1,19 +1,15 @@
 -- What is true of the sign of configurations, as laws.
 --
--- HasEdgeRule w     == the triangles of each compact edge are unimodular and lie on its two sides
 -- TwistParity       == an assignment's class, at the even points, has the parity of its twist
 -- ConfigurationSign == the sign of a configuration is that of its class and Euler characteristic
 -- OneSign           == all listed configurations of a class and Euler characteristic have that sign
 -- CountedSign       == their signed count is that sign times their number
 use Rattle.std.specs.Prelude.{◌≡◌, ℤ, pos, ◌*ℤ◌, List, length}
 use Rattle.std.specs.List.{AllByRecursion}
-use Rattle.tv_spec_plane.specs.Web.{Web, compact, even_sum, parity, class_sign}
-use Rattle.tv_edge_laws.specs.Rule.{HasRule}
+use Rattle.tv_spec_plane.specs.Web.{Web, even_sum, parity, class_sign}
+use Rattle.tv_edge_laws.specs.Rule.{HasEdgeRule}
 use Rattle.tv_spec_boxes.specs.Assignments.{Rows, Assignment, class_of, edge_twist}
 use Rattle.tv_spec_boxes.specs.Configurations.{Configuration, chi_of, configuration_sign, configurations, signed_count}
-
-abbrev pub HasEdgeRule : Web → Type 0
-HasEdgeRule w = AllByRecursion (HasRule w) (compact w)
 
 abbrev pub TwistParity : Type 0
 TwistParity = (w : Web) (a : Assignment) → HasEdgeRule w → parity (even_sum w.points (class_of w a)) ≡ parity (edge_twist w a)

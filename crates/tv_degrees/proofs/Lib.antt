@@ -1,0 +1,4 @@
+pub mod Entries
+pub mod Heights
+pub mod Graded
+pub mod Signs

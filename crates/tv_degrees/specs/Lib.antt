@@ -1,0 +1,5 @@
+pub mod Edges
+pub mod Grades
+pub use Rattle.tv_spec_plane.specs.Plane
+pub use Rattle.tv_spec_plane.specs.Web
+pub use Rattle.tv_edge_laws.specs.Rule
