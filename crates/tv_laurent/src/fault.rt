@@ -11,8 +11,8 @@ use tv_ring::RingFault;
 /// Why a series has no answer.
 #[derive(Clone, Copy, Debug, PartialEq, Eq, Error)]
 pub enum SeriesFault {
-    /// A coefficient at this exponent is too wide, or a sum on the way to it.
-    #[error("the coefficient at exponent {0} has more than 127 bits")]
+    /// The coefficient at this exponent, or a sum on the way to it, is too wide.
+    #[error("a coefficient, or a sum on the way to it, is too wide, at exponent {0}")]
     Wide(i64),
     /// There is no memory left.
     #[error("out of memory")]

@@ -6,6 +6,9 @@ use std::alloc::Global;
 use std::test::Fail;
 use tv_ring::{Ring, RingFault, Whole};
 
+// 2^126
+const HALF: i128 = 85070591730234615865843651857942052864;
+
 fn whole(n: i128) -> Result<Whole, Fail> {
     Ok(Whole::new(n).ok_or("within")?)
 }
@@ -99,8 +102,11 @@ fn wide_series(rt: HostRuntime) -> Result<(), Fail> {
     let most = series_of(rt.alloc(), -1, &[0, i128::MAX])?;
     let two = series_of(rt.alloc(), 0, &[2, 0])?;
     assert_eq!(rt; ones.add(&most).err(), Some(SeriesFault::Wide(0)));
-    assert_eq!(rt; most.scale(&whole(2)?).err(), Some(SeriesFault::Wide(0)));
-    assert_eq!(rt; product(&most, &two).err(), Some(SeriesFault::Wide(0)));
+    let half = series_of(rt.alloc(), -1, &[0, HALF])?;
+    assert_eq!(rt; half.scale(&whole(2)?).err(), Some(SeriesFault::Wide(0)));
+    assert_eq!(rt; product(&half, &two).err(), Some(SeriesFault::Wide(0)));
+    let halves = series_of(rt.alloc(), -1, &[HALF, HALF])?;
+    assert_eq!(rt; product(&ones, &halves).err(), Some(SeriesFault::Wide(-1)));
     assert!(rt; shows(&product(&ones, &most)?, -2, &[0, i128::MAX]));
     Ok(())
 }
@@ -114,15 +120,20 @@ fn term<C: Ring>(alloc: Global, n: i64, c: C) -> Result<LPoly<C>, RingFault> {
     }
 }
 
+// x * y, where the exponents are small.
+fn small_product<C: Ring>(x: &C, y: &C) -> Result<C, RingFault> {
+    if x.reach() <= 4 && y.reach() <= 4 {
+        x.mul(y)
+    } else {
+        Err(RingFault::Memory)
+    }
+}
+
 // (x + y) * (x - y), where the exponents are small.
 fn difference_of_squares<C: Ring>(x: &C, y: &C) -> Result<C, RingFault> {
     let sum = x.add(y)?;
     let difference = x.add(&y.neg()?)?;
-    if sum.reach() <= 4 && difference.reach() <= 4 {
-        sum.mul(&difference)
-    } else {
-        Err(RingFault::Memory)
-    }
+    small_product(&sum, &difference)
 }
 
 // Whether these are the coefficients from `low` on, and there are no others.
@@ -154,12 +165,10 @@ fn polynomials(rt: HostRuntime) -> Result<(), Fail> {
     zero.known();
     assert_eq!(rt; zero.span(), None);
     assert!(rt; zero.same(&LPoly::zero(rt.alloc())?));
-    let most = term(rt.alloc(), -3, whole(i128::MAX)?)?;
-    assert_eq!(rt; most.add(&most).err(), Some(RingFault::Wide));
-    assert_eq!(rt;
-        difference_of_squares(&most, &one).err(),
-        Some(RingFault::Wide)
-    );
+    let half = term(rt.alloc(), -3, whole(HALF)?)?;
+    let two = term(rt.alloc(), 1, whole(2)?)?;
+    assert_eq!(rt; half.add(&half).err(), Some(RingFault::Wide));
+    assert_eq!(rt; small_product(&half, &two).err(), Some(RingFault::Wide));
     Ok(())
 }
 

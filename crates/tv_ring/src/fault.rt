@@ -7,8 +7,8 @@ use thiserror::Error;
 /// Why a ring has no answer.
 #[derive(Clone, Copy, Debug, PartialEq, Eq, Error)]
 pub enum RingFault {
-    /// A coefficient would not lie between -(2^127 - 1) and 2^127 - 1.
-    #[error("a coefficient has more than 127 bits")]
+    /// A coefficient, or a sum on the way to it, is too wide: it would not lie between -(2^127 - 1) and 2^127 - 1.
+    #[error("a coefficient, or a sum on the way to it, is too wide")]
     Wide,
     /// There is no memory left.
     #[error("out of memory")]

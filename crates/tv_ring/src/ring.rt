@@ -54,9 +54,10 @@ pub trait Ring: Sized + Drop {
         ensures value { IfOk result (λ x. x ≡ self.now) }
         ensures never_wide { IsOkUnless result RingFault.Memory };
 
-    /// The greatest absolute exponent that the value reaches, at most 2^60.
+    /// The greatest sum of an absolute exponent and the reach of its coefficient, at most 2^60.
     fn reach(&self) -> u64
-        ensures value { result ≡ ring.reach self.now };
+        ensures value { result ≡ ring.reach self.now }
+        ensures within { result ≤ reach_limit };
 
     /// Answers nothing, and tells a proof that the meaning is a value.
     fn known(&self)

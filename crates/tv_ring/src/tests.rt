@@ -10,16 +10,25 @@ use crate::whole::Whole;
 use std::alloc::Global;
 use std::test::Fail;
 
-// (1 + x) - x - 0, by each call of the trait but `mul`
+// 2^126
+const HALF: i128 = 85070591730234615865843651857942052864;
+
+// (1 + x) - x - 0 where that is 1, else 0, by each call of the trait but `mul` and `reach`
 fn one_again<C: Ring>(alloc: Global, x: &C) -> Result<C, RingFault> {
     x.known();
     let one = C::one(alloc)?;
     let zero = C::zero(alloc)?;
     let more = one.add(x)?;
     let less = more.add(&x.neg()?)?;
-    less.add(&zero)?.copy()
+    let again = less.add(&zero)?;
+    if again.same(&one) {
+        again.copy()
+    } else {
+        Ok(zero)
+    }
 }
 
+// x * x, where x reaches no exponent
 fn square<C: Ring>(x: &C) -> Result<Option<C>, RingFault> {
     if x.reach() == 0 {
         Ok(Some(x.mul(x)?))
@@ -36,7 +45,10 @@ fn whole_numbers(rt: HostRuntime) -> Result<(), Fail> {
     assert_eq!(rt; Whole::new(i128::MIN), None);
     assert_eq!(rt; limit.add(&one).err(), Some(RingFault::Wide));
     assert_eq!(rt; limit.add(&one.neg()?)?.get(), i128::MAX - 1);
-    assert_eq!(rt; limit.mul(&limit).err(), Some(RingFault::Wide));
+    let half = Whole::new(HALF).ok_or("within")?;
+    let two = Whole::new(2).ok_or("within")?;
+    assert_eq!(rt; half.mul(&two).err(), Some(RingFault::Wide));
+    assert_eq!(rt; half.mul(&two.neg()?).err(), Some(RingFault::Wide));
     assert_eq!(rt; limit.neg()?.add(&one.neg()?).err(), Some(RingFault::Wide));
     assert_eq!(rt; one_again(rt.alloc(), &twelve)?.get(), 1);
     assert_eq!(rt; square(&twelve)?.ok_or("no exponent")?.get(), 144);

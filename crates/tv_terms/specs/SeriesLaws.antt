@@ -1,6 +1,7 @@
 -- The laws of sums and products of series, to the order that both sides know.
 --
---   SeriesLaws IsValue r == they are commutative, associative and distributive
+--   HasValues IsValue r a == each coefficient of a is a value
+--   SeriesLaws IsValue r  == they are commutative, associative and distributive
 use Rattle.std.specs.Prelude.{◌≡◌}
 use Rattle.tv_ring.specs.Operations.{Operations}
 use Rattle.tv_ring.specs.Sums.{AreValues, at}

@@ -8,8 +8,8 @@
 --   IsWithin n          == the absolute value of n is at most 2^60
 --   IsBounded t         == the lowest exponent and the last one are within 2^60
 --   padded r d f        == the sequence f after d noughts
---   from r m t          == the coefficients from the exponent m on, as a sequence
---   known m t           == how many exponents there are from m through the last one
+--   from r m t          == the coefficients from an exponent m that is at most its low, as a sequence
+--   known m t           == how many exponents there are from an exponent m that is at most its low, through the last one
 --   listed f n          == the list f 0, f 1, .., f (n - 1)
 --   plus r f g          == the sequence of the sums f k + g k
 --   scaled r c f        == the sequence of the products c * f k

@@ -7,8 +7,8 @@ ghost use Rattle.tv_terms.specs.SeriesLaws.{SeriesLaws};
 
 use tv_ring::Ring;
 
-/// Sums and products of series are commutative, associative and distributive, to the order that both sides know.
-pub fn series_are_a_ring<C: Ring>()
+/// Sums and products of series are commutative, associative and distributive to the order that both sides know.
+pub fn sums_and_products_of_series<C: Ring>()
     ensures laws { SeriesLaws C.IsValue C.ring }
 {}
 

@@ -2,6 +2,7 @@ use Rattle.std.proofs.Common.{◌≡◌, length, ◌∙◌, ap, arith, le_trans,
 use Rattle.std.proofs.lemmas.Int.{ints}
 use Rattle.tv_ring.specs.Sums.{at}
 use Rattle.tv_terms.specs.Terms.{terms}
+use Rattle.tv_terms.specs.Polynomials.{poly_reach}
 use Rattle.tv_terms.proofs.PolyKept.{greatest_is_reach, outward_within}
 use Rattle.tv_laurent.specs.PolyCalls.{outward}
 use Rattle.tv_laurent.proofs.PolyResults.{outward_is}
@@ -23,4 +24,5 @@ pub returns : goal.returns
 returns g c =
     let r = g.C.Ring.ring in let a = terms c.self.inside.low c.self.inside.coefficients.items in let low = c.self.invariant.bounded.low in
     let k : to_z w64 (of_z w64 a.low) ≡ a.low = omega (arith, ints) in
-    record { value = rw (← c.self.view_is) (c.reach_of.ensures.value ∙ rw (k, c.deref.ensures.value) (greatest_is_reach g.met.C.Ring.laws g.met.C.Ring.sizes a (outward r a.low (at r a.coefficients)) c.self.invariant.normal_form (λ i. outward_is r a.low (at r a.coefficients) i))) }
+    let same : c.reach_of.result ≡ poly_reach r a = c.reach_of.ensures.value ∙ rw (k, c.deref.ensures.value) (greatest_is_reach g.met.C.Ring.laws g.met.C.Ring.sizes a (outward r a.low (at r a.coefficients)) c.self.invariant.normal_form (λ i. outward_is r a.low (at r a.coefficients) i)) in
+    record { value = rw (← c.self.view_is) same; within = rw same c.self.invariant.reach }
