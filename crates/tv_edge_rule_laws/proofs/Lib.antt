@@ -1,0 +1,4 @@
+pub mod Corners
+pub mod Shared
+pub mod Owners
+pub mod Rules
