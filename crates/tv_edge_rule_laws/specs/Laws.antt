@@ -9,7 +9,7 @@ use Rattle.tv_spec_boxes.specs.Assignments.{Rows, class_of}
 use Rattle.tv_spec_boxes.specs.Configurations.{Configuration, chi_of, configuration_sign}
 use Rattle.tv_lattice.specs.Limits.{HasCoordinates}
 use Rattle.tv_acceptance.specs.Triangulated.{IsTiled}
-use Rattle.tv_sign_laws.specs.Laws.{HasEdgeRule}
+use Rattle.tv_edge_laws.specs.Rule.{HasEdgeRule}
 
 abbrev pub TilingHasEdgeRule : Type 0
 TilingHasEdgeRule = (w : Web) → AllByRecursion HasCoordinates w.points → IsTiled w.points w.triangles → HasEdgeRule w
