@@ -4,7 +4,7 @@
 -- all f    == f holds of both values
 -- claim    == that truth, at eight coordinates and the parity q of r; true means even
 use Rattle.std.specs.Prelude.{◌≡◌, Bool, true, false, cond, ◌&&◌, ◌||◌}
-use Rattle.std.proofs.Common.{refl, sym, ◌∙◌}
+use Rattle.std.proofs.Common.{refl, sym}
 use Rattle.tv_edge_laws.proofs.Parity.{eqv}
 
 abbrev all : (Bool → Bool) → Bool

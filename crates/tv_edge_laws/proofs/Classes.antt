@@ -1,17 +1,16 @@
 -- The parity of an edge's class at the even points, and its degree at linear heights.
-use Rattle.std.specs.Prelude.{◌≡◌, ◌≢◌, ℕ, ◌<◌, Bool, true, false, cond, ◌&&◌, ◌||◌, ℤ, pos, negsuc, ◌+ℤ◌, ◌-ℤ◌, ◌*ℤ◌, neg_ℤ, List, [], ◌∷◌, map, length, ◌⊎◌}
+use Rattle.std.specs.Prelude.{◌≡◌, ℕ, Bool, true, false, cond, ◌||◌, ℤ, pos, ◌+ℤ◌, ◌-ℤ◌, ◌*ℤ◌, neg_ℤ, List, [], ◌∷◌, map}
 use Rattle.std.proofs.Common.{refl, sym, ap, ◌∙◌, inl, inr, arith}
 use Rattle.std.proofs.lemmas.Int.{ints}
 use Rattle.tv_spec_plane.specs.declared.records.CompactEdge.{CompactEdge}
 use Rattle.tv_spec_plane.specs.Plane.{Point, at, turn}
 use Rattle.tv_spec_plane.specs.Web.{Web, degree_of, edge_class, edge_ratio, normal_a, normal_b, even_sum, is_even_point}
 use Rattle.tv_lemmas.proofs.Integers.{diff_of, diff-pos, diff-same, diffs}
-use Rattle.tv_edge_laws.specs.Rule.{HasSides, IsRule, ratio, HasRule}
+use Rattle.tv_edge_laws.specs.Rule.{HasSides, IsRule, HasRule}
 use Rattle.tv_edge_laws.specs.Laws.{ClassParity, FlatDegree, linear}
-use Rattle.tv_edge_laws.proofs.Ring.{mul-add}
 use Rattle.tv_edge_laws.proofs.Rules.{ratio-rule}
 use Rattle.tv_edge_laws.proofs.Parity.{is_even, eqv, is_even-add, is_even-sub, is_even-mul, is_even-neg, same_parity}
-use Rattle.tv_edge_laws.proofs.Bits.{weight_even, turn_even, rule_even, sum_even, same-eqv, sum_even-is}
+use Rattle.tv_edge_laws.proofs.Bits.{weight_even, turn_even, rule_even, same-eqv, sum_even-is}
 use Rattle.tv_edge_laws.proofs.Entries.{Apart, Listed, degree_of-edge_class}
 
 -- the four points are apart, since each three that turn have no point twice

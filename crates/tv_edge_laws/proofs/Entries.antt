@@ -9,7 +9,7 @@ use Rattle.std.proofs.lemmas.Int.{ints}
 use Rattle.std.proofs.lemmas.Bool.Decides.{nat_tests}
 use Rattle.tv_spec_plane.specs.declared.records.CompactEdge.{CompactEdge}
 use Rattle.tv_spec_plane.specs.Plane.{Point, at}
-use Rattle.tv_spec_plane.specs.Web.{Web, numbers_from, degree_of, class_entry, edge_class, normal_a, normal_b}
+use Rattle.tv_spec_plane.specs.Web.{Web, numbers_from, degree_of, edge_class, normal_a, normal_b}
 use Rattle.tv_edge_laws.proofs.Ring.{mul-add}
 
 abbrev pub single : ℤ → ℕ → ℕ → ℤ

@@ -1,11 +1,11 @@
 -- The rule of an edge: v + w = r u for the vectors u, v and w from its first point to the other three, where the turn of
 -- u and v and that of w and u are both 1 or both -1.
 use Rattle.std.specs.Prelude.{◌≡◌, ◌⊎◌, ℤ, pos, negsuc, ◌+ℤ◌, ◌-ℤ◌, ◌*ℤ◌, neg_ℤ}
-use Rattle.std.proofs.Common.{refl, sym, ap, subst, ◌∙◌, inl, inr, arith}
+use Rattle.std.proofs.Common.{sym, ap, subst, ◌∙◌, inl, inr, arith}
 use Rattle.std.proofs.lemmas.Int.{ints}
 use Rattle.tv_spec_plane.specs.Plane.{Point, turn}
-use Rattle.tv_lemmas.proofs.Integers.{mul-sub, sub-mul, mul-swap}
-use Rattle.tv_edge_laws.specs.Rule.{HasSides, IsRule, ratio, IsOnlyRule}
+use Rattle.tv_lemmas.proofs.Integers.{mul-sub, sub-mul}
+use Rattle.tv_edge_laws.specs.Rule.{HasSides, IsRule, ratio}
 use Rattle.tv_edge_laws.specs.Laws.{EdgeRule}
 use Rattle.tv_edge_laws.proofs.Ring.{neg-mul, cross-frame, cross-frame_y, cross-multiple, cross-back}
 

@@ -1,8 +1,8 @@
 -- What is true of each member of the lists of configurations: class and Euler characteristic are those asked for.
-use Rattle.std.specs.Prelude.{◌≡◌, ℕ, zero, suc, ◌+◌, ◌-◌, ◌≤◌, Bool, true, false, cond, ◌&&◌, nat_eq, ℤ, pos, negsuc, ◌+ℤ◌, ◌-ℤ◌, List, [], ◌∷◌, ◌++◌, map, filter, length}
+use Rattle.std.specs.Prelude.{◌≡◌, ℕ, zero, suc, ◌+◌, ◌-◌, ◌≤◌, Bool, true, false, cond, ◌&&◌, nat_eq, ℤ, pos, negsuc, List, [], ◌∷◌, ◌++◌, map, filter, length}
 use Rattle.std.specs.List.{flat_map, AllByRecursion}
 use Rattle.std.specs.Ordering.{int_eq}
-use Rattle.std.proofs.Common.{refl, sym, ap, ◌∙◌, arith}
+use Rattle.std.proofs.Common.{refl, ap, arith}
 use Rattle.std.proofs.lemmas.Int.{ints}
 use Rattle.std.proofs.lemmas.Bool.Decides.{nat_tests, Decides-int_eq}
 use Rattle.tv_spec_plane.specs.Web.{Web, below, numbers_from}
@@ -10,7 +10,7 @@ use Rattle.tv_cells.specs.declared.cell.Cell.{Cell}
 use Rattle.tv_cells.specs.declared.legs.Legs.{Legs}
 use Rattle.tv_cells.specs.Cells.{cube, sublists_of}
 use Rattle.tv_cells.specs.Extras.{is_extras, extent}
-use Rattle.tv_spec_boxes.specs.Assignments.{Rows, Assignment, all_legs, class_of, assignments_of, edge_costs, overlaps_of, same_vector}
+use Rattle.tv_spec_boxes.specs.Assignments.{Rows, Assignment, all_legs, class_of, assignments_of, same_vector}
 use Rattle.tv_spec_boxes.specs.Configurations.{Configuration, extras_of, fillings, fillings_of, boxes_left, boxes_of, chi_of, configurations, configurations_on}
 
 each_append : {A : Type 0} (P : A → Type 0) (xs ys : List A) → AllByRecursion P xs → AllByRecursion P ys → AllByRecursion P (xs ++ ys)

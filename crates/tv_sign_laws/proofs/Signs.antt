@@ -1,7 +1,7 @@
 -- The sign of a configuration, of all of a class and Euler characteristic, and of their count.
-use Rattle.std.specs.Prelude.{◌≡◌, Bool, true, false, cond, ℤ, pos, negsuc, ◌+ℤ◌, ◌*ℤ◌, List, [], ◌∷◌, length}
+use Rattle.std.specs.Prelude.{◌≡◌, Bool, cond, ℤ, pos, negsuc, ◌*ℤ◌, List, [], ◌∷◌, length}
 use Rattle.std.specs.List.{AllByRecursion}
-use Rattle.std.proofs.Common.{refl, sym, ap, ◌∙◌, arith}
+use Rattle.std.proofs.Common.{sym, ap, ◌∙◌, arith}
 use Rattle.std.proofs.lemmas.Int.{ints}
 use Rattle.tv_spec_plane.specs.Web.{Web, even_sum, class_sign}
 use Rattle.tv_spec_boxes.specs.Assignments.{Rows, class_of, edge_twist}
