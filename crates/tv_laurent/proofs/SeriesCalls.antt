@@ -1,10 +1,12 @@
 -- The results of the calls of a series are series again.
-use Rattle.std.proofs.Common.{◌≡◌, ℕ, ◌+◌, min, ℤ, pos, ◌+ℤ◌, List, length, take, sym, subst, arith, refl, ◌*◌}
+use Rattle.std.proofs.Common.{◌≡◌, ℕ, ◌+◌, min, ℤ, pos, ◌+ℤ◌, ◌≤ℤ◌, List, length, take, sym, ◌∙◌, ap, subst, arith, refl, ◌*◌}
 use Rattle.std.proofs.lemmas.Int.{ints, clamps}
 use Rattle.std.proofs.lemmas.List.{length-take}
 use Rattle.tv_ring.specs.Operations.{Operations, RingLaws}
-use Rattle.tv_terms.specs.Terms.{Terms, above, IsWithin, IsBounded}
+use Rattle.tv_ring.specs.Sums.{at}
+use Rattle.tv_terms.specs.Terms.{Terms, above, upto, IsWithin, IsBounded}
 use Rattle.tv_terms.specs.Series.{series_shift, series_cut, IsSeries}
+use Rattle.tv_terms.specs.Quotients.{IsUnitSeries}
 use Rattle.tv_laurent.specs.SeriesCalls.{sum_size, scale_size}
 use Rattle.tv_terms.proofs.Exponents.{above_is}
 use Rattle.tv_terms.proofs.Listed.{at-take, values_all}
@@ -34,3 +36,9 @@ sum_size_is r f g k = refl
 pub scale_size_is : {A : Type 0} (r : Operations A) (c : A) (f : ℕ → A) (k : ℕ) → scale_size r c f k ≡ r.size c * r.size (f k)
 unfolding scale_size
 scale_size_is r c f k = refl
+
+-- what is told of the exponent 0 of a series that begins with one there
+pub tells_unit : {A : Type 0} (r : Operations A) (b : Terms A) (x : A) → b.low ≡ pos 0 → pos 0 ≤ℤ upto b → x ≡ at r b.coefficients (above b.low (pos 0)) → x ≡ r.unit → IsUnitSeries r b
+tells_unit r b x low known told one =
+    let e : above b.low (pos 0) ≡ 0 = omega (arith, ints, above_is b.low (pos 0)) in
+    record { low = low; known = known; unit = ap (at r b.coefficients) (sym e) ∙ sym told ∙ one }

@@ -1,4 +1,4 @@
--- What the calls of a series put together is the sum, the product or the multiple.
+-- What the calls of a series put together is the sum, the product, the quotient or the multiple.
 use Rattle.std.proofs.Common.{◌≡◌, ℕ, ◌+◌, min, ℤ, ◌+ℤ◌, List, length, refl, ◌∙◌, arith}
 use Rattle.std.specs.Int.{int_min}
 use Rattle.std.proofs.lemmas.Int.{ints, clamps}
@@ -7,12 +7,16 @@ use Rattle.tv_ring.specs.Sums.{at, convolution, size_convolution}
 use Rattle.tv_terms.specs.Terms.{Terms, terms, above, padded, from, known, listed, plus, scaled, IsWithin, IsBounded}
 use Rattle.tv_terms.specs.Series.{series_sum, product_upto, series_product, series_scale, IsSeries}
 use Rattle.tv_laurent.specs.SeriesCalls.{IsWideAt, IsSumWide, IsProductWide, sum_size, OnWide}
+use Rattle.tv_terms.specs.Quotients.{quotients, series_quotient, IsUnitSeries}
+use Rattle.tv_laurent.specs.QuotientCalls.{ReachesAddUpTimes, quotient_size, QuotientReaches, IsQuotientWide}
 use Rattle.tv_laurent.specs.declared.fault.SeriesFault.{SeriesFault}
 use Rattle.tv_laurent.specs.declared.fault.SeriesFault.TheVariants.{Wide, Memory}
 use Rattle.tv_terms.proofs.Exponents.{above_is}
 use Rattle.tv_terms.proofs.Listed.{length-listed}
 use Rattle.tv_terms.proofs.Padded.{value_scaled}
 use Rattle.tv_terms.proofs.SeriesFrom.{terms-same, value_listed, value_series_sum, value_series_product}
+use Rattle.tv_terms.proofs.Quotients.{length-quotients}
+use Rattle.tv_terms.proofs.SeriesQuotients.{value_series_quotient}
 
 pub from_padded : {A : Type 0} (r : Operations A) (m : ℤ) (t : Terms A) → from r m t ≡ padded r (above m t.low) (at r t.coefficients)
 unfolding from
@@ -67,3 +71,22 @@ module _ {A : Type 0} {IsValue : A → Type 0} {r : Operations A} (laws : RingLa
   scale_is_series c a v s =
       let n = length-listed (scaled r c (at r a.coefficients)) (length a.coefficients) in let la = s.bounded.low in let ua = s.bounded.upto in
       record { bounded = record { low = la; upto = omega (arith, ints) }; values = value_listed laws (scaled r c (at r a.coefficients)) (length a.coefficients) (value_scaled laws c (at r a.coefficients) v s.values) }
+
+pub quotient_result : {A : Type 0} (r : Operations A) (a b : Terms A) (low : ℤ) (count : ℕ) (xs ys items : List A) → xs ≡ a.coefficients → ys ≡ b.coefficients → low ≡ a.low → count ≡ min (length xs) (length ys)
+    → items ≡ quotients r (at r xs) (at r ys) count → terms low items ≡ series_quotient r a b
+quotient_result r a b low count xs ys items ex ey el ec ei = terms-same low a.low items _ el (ei ∙ rw (ec, ex, ey) refl)
+
+pub quotient_wide_result : {A : Type 0} (r : Operations A) (a b : Terms A) (low : ℤ) (count : ℕ) (xs ys : List A) (fault : SeriesFault) → xs ≡ a.coefficients → ys ≡ b.coefficients → low ≡ a.low → count ≡ min (length xs) (length ys)
+    → OnWide fault (λ n. IsWideAt low n count (quotient_size r (at r xs) (at r ys) (at r (quotients r (at r xs) (at r ys) count)))) → OnWide fault (IsQuotientWide r a b)
+quotient_wide_result r a b low count xs ys Memory ex ey el ec wide = tt
+quotient_wide_result r a b low count xs ys (Wide n) ex ey el ec wide = let w = rw (el, ec, ex, ey) at wide in w
+
+pub quotient_reaches : {A : Type 0} (r : Operations A) (a b : Terms A) (count : ℕ) (xs ys : List A) → xs ≡ a.coefficients → ys ≡ b.coefficients → count ≡ min (length xs) (length ys) → QuotientReaches r a b → ReachesAddUpTimes r count xs ys
+quotient_reaches r a b count xs ys ex ey ec reaches = rw (ec, ex, ey) reaches
+
+module _ {A : Type 0} {IsValue : A → Type 0} {r : Operations A} (laws : RingLaws IsValue r) where
+  pub quotient_is_series : (a b : Terms A) → IsUnitSeries r b → IsSeries IsValue r a → IsSeries IsValue r b → IsSeries IsValue r (series_quotient r a b)
+  quotient_is_series a b unit sa sb =
+      let n = length-quotients r (at r a.coefficients) (at r b.coefficients) (min (length a.coefficients) (length b.coefficients)) in
+      let la = sa.bounded.low in let ua = sa.bounded.upto in let lb = unit.low in let kb = unit.known in
+      record { bounded = record { low = la; upto = omega (arith, ints, clamps) }; values = value_series_quotient laws a b sa.values sb.values }

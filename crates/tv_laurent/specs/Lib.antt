@@ -1,3 +1,4 @@
 pub mod Faults
 pub mod SeriesCalls
+pub mod QuotientCalls
 pub mod PolyCalls

@@ -8,6 +8,7 @@ mod fault;
 mod normal;
 mod poly;
 mod products;
+mod quotients;
 mod series;
 mod sums;
 

@@ -11,7 +11,8 @@ use crate::fault::{SeriesFault, fault_at};
 use std::alloc::Global;
 use tv_ring::{Ring, RingFault};
 
-fn product_at<C: Ring>(alloc: Global, a: &[C], b: &[C], place: usize) -> Result<C, RingFault>
+/// The coefficient of the product at a place.
+pub fn product_at<C: Ring>(alloc: Global, a: &[C], b: &[C], place: usize) -> Result<C, RingFault>
     requires a { AreValues C.IsValue (at C.ring a.now) }
     requires b { AreValues C.IsValue (at C.ring b.now) }
     requires reaches { ReachesAddUp C.ring a.now b.now }

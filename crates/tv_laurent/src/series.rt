@@ -5,12 +5,15 @@ ghost use Rattle.std.specs.Prelude.{◌≡◌, ◌+◌, ◌-◌, ◌<◌, ◌≤
 ghost use Rattle.tv_ring.specs.Sums.{at, AreValues};
 ghost use Rattle.tv_terms.specs.Terms.{terms, above, upto, IsWithin, IsBounded};
 ghost use Rattle.tv_terms.specs.Series.{series_sum, product_upto, series_product, series_scale, series_shift, series_cut, IsSeries};
+ghost use Rattle.tv_terms.specs.Quotients.{series_quotient, IsUnitSeries};
+ghost use Rattle.tv_laurent.specs.QuotientCalls.{QuotientReaches, IsQuotientWide};
 ghost use Rattle.tv_laurent.specs.SeriesCalls.{Tells, ReachesAddUp, ReachesAddTo, OnWide, IsSumWide, IsProductWide, IsMultipleWide};
 
 use crate::coefficient::Coefficient;
 use crate::exponents::places;
 use crate::fault::SeriesFault;
 use crate::products::{multiples, products};
+use crate::quotients::quotients;
 use crate::sums::sums;
 use std::marker::Model;
 use tv_ring::Ring;
@@ -119,6 +122,24 @@ impl<C: Ring> Series<C> {
         let count = self.coefficients.len().min(other.coefficients.len());
         let alloc = *self.coefficients.allocator();
         let coefficients = products(alloc, low, count, &self.coefficients, &other.coefficients)?;
+        Ok(Series { low, coefficients })
+    }
+
+    /// The quotient by a series that begins with one at exponent 0.
+    ///
+    /// It begins at this series' low, and is known through the lesser of `upto` and `low + by.upto`.
+    pub fn div_unit(&self, by: &Series<C>) -> Result<Series<C>, SeriesFault>
+        requires unit { IsUnitSeries C.ring by.now }
+        requires reaches { QuotientReaches C.ring self.now by.now }
+        ensures value { IfOk result (λ s. s ≡ series_quotient C.ring self.now by.now) }
+
+        // Wide only where the size of the coefficient at that exponent, and the sizes of the products that are taken from it, add up to more than the limit.
+        ensures wide { IfErr result (λ e. OnWide e (IsQuotientWide C.ring self.now by.now)) }
+    {
+        let low = self.low;
+        let count = self.coefficients.len().min(by.coefficients.len());
+        let alloc = *self.coefficients.allocator();
+        let coefficients = quotients(alloc, low, count, &self.coefficients, &by.coefficients)?;
         Ok(Series { low, coefficients })
     }
 

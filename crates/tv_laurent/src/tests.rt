@@ -1,10 +1,13 @@
 // Values from outside, each call once with ample memory through a bound, and each fault.
 // What the contracts say is not tried again.
 
+ghost use Rattle.std.specs.Prelude.{◌≡◌};
+ghost use Rattle.tv_laurent.specs.QuotientCalls.{QuotientReaches};
+
 use crate::{Coefficient, LPoly, Series, SeriesFault};
 use std::alloc::Global;
 use std::test::Fail;
-use tv_ring::{Ring, RingFault, Whole};
+use tv_ring::{Residue, Ring, RingFault, Whole};
 
 // 2^126
 const HALF: i128 = 85070591730234615865843651857942052864;
@@ -109,6 +112,61 @@ fn wide_series(rt: HostRuntime) -> Result<(), Fail> {
     assert_eq!(rt; product(&ones, &halves).err(), Some(SeriesFault::Wide(-1)));
     assert!(rt; shows(&product(&ones, &most)?, -2, &[0, i128::MAX]));
     Ok(())
+}
+
+// The quotient, where the divisor begins with one at 0.
+fn quotient<C: Ring>(a: &Series<C>, b: &Series<C>, one: &C) -> Result<Series<C>, SeriesFault>
+    requires one { one.now ≡ C.ring.unit }
+    requires reaches { QuotientReaches C.ring a.now b.now }
+{
+    match b.coefficient(0) {
+        Coefficient::Is(first) if b.low() == 0 && first.same(one) => a.div_unit(b),
+        _ => Err(SeriesFault::Memory),
+    }
+}
+
+#[test]
+fn quotients(rt: HostRuntime) -> Result<(), Fail> {
+    let one = Whole::one(rt.alloc())?;
+    let a = series_of(rt.alloc(), 0, &[1, 0, 0, 0])?;
+    let b = series_of(rt.alloc(), 0, &[1, -1, 0, 0])?;
+    assert!(rt; shows(&quotient(&a, &b, &one)?, 0, &[1, 1, 1, 1]));
+    let square = series_of(rt.alloc(), 0, &[1, -2, 7, -18, 47])?;
+    let root = series_of(rt.alloc(), 0, &[1, -1, 3, -6, 13])?;
+    assert!(rt; shows(&quotient(&square, &root, &one)?, 0, &[1, -1, 3, -6, 13]));
+    let lower = series_of(rt.alloc(), -1, &[1, 0, 0, 0])?;
+    assert!(rt; shows(&quotient(&lower, &root.cut(2), &one)?, -1, &[1, 1, -2]));
+    let most = series_of(rt.alloc(), -1, &[1, i128::MAX])?;
+    assert_eq!(rt; quotient(&most, &b, &one).err(), Some(SeriesFault::Wide(0)));
+    Ok(())
+}
+
+#[test]
+fn quotients_of_remainders(rt: HostRuntime) -> Result<(), Fail> {
+    let zero = Residue::<7>::zero(rt.alloc())?;
+    let one = Residue::<7>::one(rt.alloc())?;
+    let a = Series::new(0, vec![in rt.alloc(); one, zero, zero]?);
+    let b = Series::new(0, vec![in rt.alloc(); one, one, zero]?);
+    let alternating = quotient(&a, &b, &one)?;
+    match (
+        alternating.coefficient(0),
+        alternating.coefficient(1),
+        alternating.coefficient(2),
+        alternating.coefficient(3),
+    ) {
+        (
+            Coefficient::Is(first),
+            Coefficient::Is(second),
+            Coefficient::Is(third),
+            Coefficient::Beyond,
+        ) => {
+            assert_eq!(rt; first.get(), 1);
+            assert_eq!(rt; second.get(), 6);
+            assert_eq!(rt; third.get(), 1);
+            Ok(())
+        }
+        _ => Err("known through 2".into()),
+    }
 }
 
 // The power `n` of the variable times `c`, where both are small.

@@ -3,3 +3,4 @@ pub mod Remaining
 pub mod Cuts
 pub mod Writing
 pub mod Steps
+pub mod Tallied

@@ -1,13 +1,15 @@
 -- One step of the count: what is counted and what is left make the whole, before a cell is decided and after.
 use Rattle.std.proofs.Common.{◌≡◌, ℕ, ◌+◌, ◌-◌, ◌<◌, ◌≤◌, true, List, [], ◌∷◌, ◌++◌, length, arith, ◌∙◌, ap}
 use Rattle.std.specs.Prelude.{◌^◌, Result, Ok, Err, OnOk}
+use Rattle.tv_ring.specs.Operations.{Operations}
+use Rattle.tv_ring.specs.Sums.{times}
 use Rattle.tv_cells.specs.declared.cell.Cell.{Cell}
 use Rattle.tv_cells.specs.declared.legs.Legs.{Legs}
 use Rattle.tv_cells.specs.Cells.{rises, cube}
 use Rattle.tv_cells.specs.Extras.{count, extent}
 use Rattle.tv_cells.proofs.Rising.{rises-remove}
 use Rattle.tv_cells.proofs.Cubes.{cube-rises}
-use Rattle.tv_plain.specs.Rest.{rest, leaves_gap, limit}
+use Rattle.tv_plain.specs.Rest.{rest, leaves_gap}
 use Rattle.tv_plain.proofs.Remaining.{rest-step, rest-none, rest-count}
 use Rattle.tv_plain.proofs.Cuts.{rest-gap}
 
@@ -50,6 +52,8 @@ start-rises chosen cells side none whole = rw (none, whole) (cube-rises side)
 pub start-count : (legs : Legs) (chosen cells : List Cell) (n side : ℕ) → chosen ≡ [] → cells ≡ cube side → side ≡ n + extent legs → rest legs chosen cells n ≡ count legs n
 start-count legs chosen cells n side none whole e = rw (none, whole) (rest-count legs n side e)
 
-pub bound-at : {E : Type 0} (r : Result ℕ E) (m n : ℕ) → m ≡ n → OnOk r (m ≤ limit) → OnOk r (n < 2 ^ 127)
-bound-at (Ok k) m n e b = omega (arith, e, b)
-bound-at (Err f) m n e b = tt
+-- a total that is a multiple of one by what is counted so far, and what is left of the whole
+pub record IsSoFar {A : Type 0} (r : Operations A) (total : A) (left whole : ℕ) : Type 0 where
+  pub counted : ℕ
+  pub is : total ≡ times r counted
+  pub sum : counted + left ≡ whole

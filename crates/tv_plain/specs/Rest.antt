@@ -1,18 +1,14 @@
 -- What is left to count where some cells are chosen already.
 --
--- limit                         == the greatest count that is given, 2^127 - 1
 -- rest legs chosen cells n      == the number of sublists of n of the cells that are extras with the chosen cells
 -- enters legs chosen c          == c is in no leg, and one step lower along y and z is the union of legs and chosen
 -- leaves_gap legs chosen c      == c is in no leg, and the cell one step higher along x is chosen
-use Rattle.std.specs.Prelude.{ℕ, ◌+◌, ◌-◌, ◌^◌, Bool, ◌&&◌, ◌||◌, List, ◌++◌, filter, length, nat_eq}
+use Rattle.std.specs.Prelude.{ℕ, ◌+◌, ◌-◌, Bool, ◌&&◌, ◌||◌, List, ◌++◌, filter, length, nat_eq}
 use Rattle.std.specs.List.{list_any}
 use Rattle.tv_cells.specs.declared.cell.Cell.{Cell}
 use Rattle.tv_cells.specs.declared.legs.Legs.{Legs}
 use Rattle.tv_cells.specs.Cells.{cell, same, sublists_of}
 use Rattle.tv_cells.specs.Extras.{legs_at, in_union, is_extras}
-
-abbrev pub limit : ℕ
-limit = 2 ^ 127 - 1
 
 unfoldable pub rest : Legs → List Cell → List Cell → ℕ → ℕ
 rest legs chosen cells n = length (filter (λ s. is_extras legs (chosen ++ s)) (sublists_of n cells))

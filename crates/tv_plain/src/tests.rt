@@ -1,10 +1,13 @@
 //! Counts of extras beside no leg, one leg and three legs of one cell, as they are known from outside.
 
-use crate::listing::extras_count;
+ghost use Rattle.std.specs.Prelude.{◌<◌, ◌^◌};
+
+use crate::listing::{extras_count, extras_times};
 use std::alloc::Global;
 use std::test::Fail;
 use tv_cells::legs::Legs;
 use tv_partition::diagram::Diagram;
+use tv_ring::{Residue, Ring};
 
 fn leg(alloc: Global, present: bool) -> Result<Diagram, Fail> {
     if !present {
@@ -55,6 +58,26 @@ fn counts_beside_legs(rt: HostRuntime) -> Result<(), Fail> {
             beside_three,
             "{number} beside three"
         );
+    }
+    Ok(())
+}
+
+fn times<C: Ring>(alloc: Global, legs: &Legs, number: u32) -> Result<C, Fail>
+    requires { number < 2 ^ 29 }
+{
+    Ok(extras_times(alloc, legs, number)?)
+}
+
+#[test]
+fn counts_modulo_seven(rt: HostRuntime) -> Result<(), Fail> {
+    let legs = Legs {
+        along_x: leg(rt.alloc(), false)?,
+        along_y: leg(rt.alloc(), false)?,
+        along_z: leg(rt.alloc(), false)?,
+    };
+    for (number, want) in [(4, 6), (5, 3), (6, 6)] {
+        let count: Residue<7> = times(rt.alloc(), &legs, number)?;
+        assert_eq!(rt; count.get(), want, "{number} extras");
     }
     Ok(())
 }

@@ -3,6 +3,8 @@ pub mod Listed
 pub mod Padded
 pub mod SeriesFrom
 pub mod SeriesRing
+pub mod Quotients
+pub mod SeriesQuotients
 pub mod NormalForm
 pub mod PolyFrom
 pub mod PolyRing
@@ -10,3 +12,4 @@ pub mod PolySizes
 pub mod PolyReach
 pub mod PolySizeLaws
 pub mod PolyKept
+mod Values

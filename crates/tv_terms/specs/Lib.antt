@@ -1,4 +1,6 @@
 pub mod Terms
 pub mod Series
 pub mod SeriesLaws
+pub mod Quotients
+pub mod QuotientLaws
 pub mod Polynomials

@@ -4,12 +4,21 @@
 ghost use Rattle.tv_ring.specs.Operations.{RingLaws, SizeLaws};
 ghost use Rattle.tv_terms.specs.Polynomials.{IsPoly, polynomials};
 ghost use Rattle.tv_terms.specs.SeriesLaws.{SeriesLaws};
+ghost use Rattle.tv_terms.specs.QuotientLaws.{QuotientTimesDivisor, DivisionUndoes, OnlyQuotient, QuotientHasValues};
 
 use tv_ring::Ring;
 
 /// Sums and products of series are commutative, associative and distributive to the order that both sides know.
 pub fn sums_and_products_of_series<C: Ring>()
     ensures laws { SeriesLaws C.IsValue C.ring }
+{}
+
+/// The quotient of a series by one that begins with one times that series is the dividend, as far as the quotient is known, and no other series is.
+pub fn quotients_of_series<C: Ring>()
+    ensures product { QuotientTimesDivisor C.IsValue C.ring }
+    ensures undoes { DivisionUndoes C.IsValue C.ring }
+    ensures only { OnlyQuotient C.IsValue C.ring }
+    ensures values { QuotientHasValues C.IsValue C.ring }
 {}
 
 /// Laurent polynomials over a ring are a ring, whose sizes and reaches are bounded as a ring's are.
