@@ -1,0 +1,6 @@
+pub mod Degrees
+pub mod Search
+pub mod Places
+pub mod Held
+pub mod Told
+pub mod Dividends

@@ -1,0 +1,43 @@
+//! A class with its series, as a family keeps it. It does not know the family's heights.
+
+ghost use Rattle.std.specs.Prelude.{◌≡◌};
+ghost use Rattle.tv_spec_series.specs.Families.{row};
+
+use std::marker::Model;
+use tv_lattice::class::Class;
+use tv_laurent::Series;
+use tv_ring::Ring;
+
+#[derive(Drop)]
+pub struct Kept<C: Ring> {
+    class: Class,
+    series: Series<C>,
+}
+
+impl<C: Ring> Model for Kept<C> {
+    ghost use Rattle.tv_spec_series.specs.Families.{Row, row};
+
+    ghost Value = { Row C };
+
+    ghost view = { λ kept. row kept.class kept.series };
+}
+
+impl<C: Ring> Kept<C> {
+    pub fn new(class: Class, series: Series<C>) -> Kept<C>
+        ensures value { result ≡ row class series }
+    {
+        Kept { class, series }
+    }
+
+    pub fn class(&self) -> &Class
+        ensures value { result.now ≡ self.now.class }
+    {
+        &self.class
+    }
+
+    pub fn series(&self) -> &Series<C>
+        ensures value { result.now ≡ self.now.series }
+    {
+        &self.series
+    }
+}

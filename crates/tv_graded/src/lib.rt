@@ -1,0 +1,18 @@
+//! Families of series by class: sorted, looked up by class, summed class by class, and divided by one series.
+//! It knows of no web: a class is a vector of entries, and heights give its degree.
+#![tactic(auto)]
+
+mod divided;
+mod entry;
+mod fault;
+mod graded;
+mod kept;
+pub mod laws;
+mod order;
+
+pub use entry::Entry;
+pub use fault::GradedFault;
+pub use graded::Graded;
+
+#[cfg(test)]
+mod tests;

@@ -1,0 +1,82 @@
+-- Worked values of Katz's product and of the integers.
+use Rattle.std.specs.Prelude.{◌≡◌, ℤ, pos, negsuc, List, [], ◌∷◌, map, refl, ◌≢◌}
+use Rattle.tv_ring.specs.Whole.{wholes}
+use Rattle.tv_ring.specs.Sums.{at}
+use Rattle.tv_terms.specs.Terms.{terms, above}
+use Rattle.tv_spec_series.specs.Families.{Family, row, coefficient, find, comes_before}
+use Rattle.tv_katz.specs.Binomials.{choose, binomial, power_at, sum_below}
+use Rattle.tv_katz.specs.Places.{place, less_by, unit}
+use Rattle.tv_katz.specs.Product.{times, product}
+use Rattle.tv_katz.specs.Katz.{Integer, katz}
+use Rattle.tv_katz.specs.Integers.{integers, candidates}
+use Rattle.tv_katz.specs.Majorant.{majorant, absolute_product, genus_slope}
+
+conifold_heights : List ℤ
+conifold_heights = pos 0 ∷ pos 1 ∷ pos 0 ∷ pos 0 ∷ []
+
+conifold_class : List ℤ
+conifold_class = negsuc 0 ∷ pos 1 ∷ negsuc 0 ∷ pos 1 ∷ []
+
+conifold_twice : List ℤ
+conifold_twice = negsuc 1 ∷ pos 2 ∷ negsuc 1 ∷ pos 2 ∷ []
+
+conifold_integer : List Integer
+conifold_integer = record { degree = pos 1; class = conifold_class; genus = 0; value = pos 1 } ∷ []
+
+-- the one curve of the conifold: 1, -2, 3, -4, 5 in degree 1
+conifold_first : map (λ n. katz conifold_integer (place conifold_heights conifold_class n)) (pos 0 ∷ pos 1 ∷ pos 2 ∷ pos 3 ∷ pos 4 ∷ pos 5 ∷ []) ≡ pos 0 ∷ pos 1 ∷ negsuc 1 ∷ pos 3 ∷ negsuc 3 ∷ pos 5 ∷ []
+unfolding conifold_heights conifold_class conifold_integer katz product times unit less_by power_at binomial choose sum_below
+conifold_first = refl
+
+-- and -2, 4, -10 from exponent 3 in degree 2
+conifold_second : map (λ n. katz conifold_integer (place conifold_heights conifold_twice n)) (pos 1 ∷ pos 2 ∷ pos 3 ∷ pos 4 ∷ pos 5 ∷ []) ≡ pos 0 ∷ pos 0 ∷ negsuc 1 ∷ pos 4 ∷ negsuc 9 ∷ []
+unfolding conifold_heights conifold_class conifold_twice conifold_integer katz product times unit less_by power_at binomial choose sum_below
+conifold_second = refl
+
+plane_heights : List ℤ
+plane_heights = pos 0 ∷ pos 1 ∷ pos 0 ∷ pos 0 ∷ []
+
+line : List ℤ
+line = negsuc 2 ∷ pos 1 ∷ pos 1 ∷ pos 1 ∷ []
+
+conic : List ℤ
+conic = negsuc 5 ∷ pos 2 ∷ pos 2 ∷ pos 2 ∷ []
+
+plane_integers : List Integer
+plane_integers = record { degree = pos 2; class = conic; genus = 0; value = negsuc 5 } ∷ record { degree = pos 1; class = line; genus = 0; value = pos 3 } ∷ []
+
+-- lines and conics of local P^2, 3 and -6: -6, 15, -36 in degree 2
+plane_second : map (λ n. katz plane_integers (place plane_heights conic n)) (pos 0 ∷ pos 1 ∷ pos 2 ∷ pos 3 ∷ []) ≡ pos 0 ∷ negsuc 5 ∷ pos 15 ∷ negsuc 35 ∷ []
+unfolding plane_heights line conic plane_integers katz product times unit less_by power_at binomial choose sum_below
+plane_second = refl
+
+plane_series : Family ℤ
+plane_series = record {
+  heights = plane_heights;
+  top = pos 2;
+  upto = pos 3;
+  rows = row (pos 0 ∷ pos 0 ∷ pos 0 ∷ pos 0 ∷ []) (terms (pos 0) (pos 1 ∷ pos 0 ∷ pos 0 ∷ pos 0 ∷ [])) ∷ row line (terms (pos 1) (pos 3 ∷ negsuc 5 ∷ pos 9 ∷ [])) ∷ row conic (terms (pos 1) (negsuc 5 ∷ pos 15 ∷ negsuc 35 ∷ [])) ∷ [];
+}
+
+-- they are read off their series
+plane_integers_are : integers 2 plane_series ≡ plane_integers
+unfolding plane_heights line conic plane_integers plane_series integers candidates comes_before find coefficient at above katz product times unit less_by power_at binomial choose sum_below
+plane_integers_are = refl
+
+made_up : Family ℤ
+made_up = record {
+  heights = pos 1 ∷ [];
+  top = pos 1;
+  upto = pos 3;
+  rows = row (pos 0 ∷ []) (terms (pos 0) (pos 1 ∷ pos 0 ∷ pos 0 ∷ pos 0 ∷ [])) ∷ row (pos 1 ∷ []) (terms (pos 2) (pos 1 ∷ pos 0 ∷ [])) ∷ [];
+}
+
+-- the made-up series q^2 has no integers, so that it differs at exponent 2
+made_up_integers : integers 1 made_up ≡ []
+unfolding made_up integers candidates comes_before find coefficient at above katz product times unit less_by power_at binomial choose sum_below
+made_up_integers = refl
+
+-- the majorant of the lines of local P^2 at exponent 1: 3 + 2 * 3
+plane_majorant : majorant 2 (pos 3) plane_series plane_integers line (pos 1) ≡ 9
+unfolding plane_heights line conic plane_integers plane_series majorant absolute_product comes_before find coefficient at above product times unit less_by power_at binomial choose sum_below
+plane_majorant = refl

@@ -1,0 +1,6 @@
+pub mod Binomials
+pub mod Places
+pub mod Product
+pub mod Katz
+pub mod Integers
+pub mod Majorant

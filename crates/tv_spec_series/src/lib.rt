@@ -1,0 +1,2 @@
+//! Families of series by class, as definitions. Nothing is added here for a caller.
+#![tactic(auto)]
