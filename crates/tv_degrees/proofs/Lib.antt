@@ -2,3 +2,4 @@ pub mod Entries
 pub mod Heights
 pub mod Graded
 pub mod Signs
+pub mod Bounds

@@ -1,18 +1,21 @@
 //! A web with heights under which every compact edge has a degree of at least 1, with the classes and degrees of its edges.
-//! It does not ask whether triangles tile.
+//! That its edges have their rule is the web's own.
 
-ghost use Rattle.std.specs.Prelude.{◌≡◌, ◌<◌, ◌<ℤ◌, pos, length, vec_len, MatchResult};
+ghost use Rattle.std.specs.Prelude.{◌≡◌, ◌≤◌, ◌<◌, ◌<ℤ◌, pos, length, unsigned_abs, vec_len, MatchResult};
 ghost use Rattle.std.specs.List.{AllByRecursion};
-ghost use Rattle.tv_spec_plane.specs.Web.{compact, outer, corners, edge_class, edge_degree};
-ghost use Rattle.tv_lattice.specs.Limits.{IsHeight};
-ghost use Rattle.tv_degrees.specs.Edges.{edge_at, with_heights};
+ghost use Rattle.tv_spec_plane.specs.Web.{compact, outer, corners, edge_ratio, normal_a, normal_b, edge_class, edge_degree};
+ghost use Rattle.tv_lattice.specs.Limits.{IsHeight, HasCoordinates};
+ghost use Rattle.tv_edge_laws.specs.Rule.{HasEdgeRule};
+ghost use Rattle.tv_degrees.specs.Edges.{edge_at, with_heights, IsNormalDegree};
 ghost use Rattle.tv_degrees.specs.Grades.{IsGraded, IsDegreeFault, IsHeighted};
 
+use crate::classes;
 use crate::fault::DegreeFault;
 use crate::grades::{Grades, grades_of};
 use std::alloc::Global;
 use std::marker::Model;
 use tv_lattice::class::Class;
+use tv_spec_plane::records::{CompactEdge, Corner, OuterEdge};
 use tv_web::web::Web;
 
 /// The web, its heights, and the class and degree of each compact edge.
@@ -67,6 +70,61 @@ impl GradedWeb {
         ensures graded { IsGraded self.now }
     {
         &self.heights
+    }
+
+    /// The edges of two triangles, in the order of their points.
+    pub fn compact(&self) -> &[CompactEdge]
+        ensures value { result.now ≡ compact self.now }
+        ensures few { length result.now ≤ 4096 }
+    {
+        self.web().compact()
+    }
+
+    /// The edges of one triangle, in the order of their points.
+    pub fn outer(&self) -> &[OuterEdge]
+        ensures value { result.now ≡ outer self.now }
+        ensures few { length result.now ≤ 4096 }
+    {
+        self.web().outer()
+    }
+
+    /// One for each triangle, in their order.
+    pub fn corners(&self) -> &[Corner]
+        ensures { result.now ≡ corners self.now }
+    {
+        self.web().corners()
+    }
+
+    /// Tells what is true of every graded web, and does nothing.
+    pub fn known(&self)
+        ensures heighted { IsHeighted self.now }
+        ensures graded { IsGraded self.now }
+        ensures rule { HasEdgeRule self.now }
+        ensures coordinates { AllByRecursion HasCoordinates self.now.points }
+    {
+        self.web.known();
+    }
+
+    /// The normal degrees of compact edge e, at its first and at its second point.
+    pub fn normals(&self, e: u32) -> (i64, i64)
+        requires { e < length (compact self.now) }
+        ensures first { result.0 ≡ normal_a self.now (edge_at self.now e) }
+        ensures second { result.1 ≡ normal_b self.now (edge_at self.now e) }
+        ensures first_small { IsNormalDegree result.0 }
+        ensures second_small { IsNormalDegree result.1 }
+    {
+        self.known();
+        let ratio = self.ratio(e);
+        (classes::normal_a(ratio), classes::normal_b(ratio))
+    }
+
+    // The r of the rule of compact edge e.
+    fn ratio(&self, e: u32) -> i64
+        requires { e < length (compact self.now) }
+        ensures value { result ≡ edge_ratio self.now (edge_at self.now e) }
+        ensures bound { unsigned_abs result ≤ 6400000000 }
+    {
+        classes::edge_ratio(self.web(), self.compact()[e as usize])
     }
 
     /// The class of compact edge e.

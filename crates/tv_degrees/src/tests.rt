@@ -11,6 +11,7 @@ use tv_lattice::class::Class;
 use tv_lattice::point::Point;
 use tv_lattice::turn::turn;
 use tv_spec_plane::records::Triple;
+use tv_triangulation::triangulate::triangulate;
 use tv_web::web::build_web;
 
 #[test]
@@ -23,7 +24,8 @@ fn grades_the_conifold(rt: HostRuntime) -> Result<(), Fail> {
     triangles.push(Triple { a: 0, b: 1, c: 2 })?;
     triangles.push(Triple { a: 0, b: 2, c: 3 })?;
     assert!(rt; points.len() == 4 && triangles.len() == 2);
-    let web = build_web(rt.alloc(), points, triangles)?;
+    let triangulation = triangulate(rt.alloc(), &points, &triangles)?;
+    let web = build_web(rt.alloc(), triangulation)?;
     assert!(rt; web.points().len() == 4 && web.compact().len() == 1);
     let class = edge_class(rt.alloc(), &web, 0)?;
     assert_eq!(rt; class.entries(), [-1, 1, -1, 1].as_slice());
@@ -34,7 +36,12 @@ fn grades_the_conifold(rt: HostRuntime) -> Result<(), Fail> {
     assert_eq!(rt; sign(web.points(), &class, 1), 1);
     let graded = grade(rt.alloc(), web, heights)?;
     assert_eq!(rt; graded.heights(), [0, 1, 0, 0].as_slice());
+    graded.known();
     assert!(rt; graded.web().compact().len() == 1);
+    assert_eq!(rt; graded.compact().len(), 1);
+    assert_eq!(rt; graded.outer().len(), 4);
+    assert_eq!(rt; graded.corners().len(), 2);
+    assert_eq!(rt; graded.normals(0), (-1, -1));
     assert_eq!(rt; graded.class_of(0).entries(), [-1, 1, -1, 1].as_slice());
     assert_eq!(rt; graded.degree_of(0), 1);
     Ok(())
@@ -51,7 +58,8 @@ fn refuses_level_heights(rt: HostRuntime) -> Result<(), Fail> {
         triangles.push(Triple { a, b, c })?;
     }
     assert!(rt; points.len() == 4 && triangles.len() == 3);
-    let web = build_web(rt.alloc(), points, triangles)?;
+    let triangulation = triangulate(rt.alloc(), &points, &triangles)?;
+    let web = build_web(rt.alloc(), triangulation)?;
     let heights = [1, 0, 0, 0].to_vec(rt.alloc())?;
     assert!(rt; web.points().len() == 4);
     let Err(fault) = grade(rt.alloc(), web, heights) else {

@@ -3,7 +3,8 @@
 -- Mesh               == points and triangles over them
 -- IsTriangulated m   == the triangles are unimodular and counter-clockwise, and their directed edges match among
 --                       themselves and with the hull of the points
-use Rattle.std.specs.Prelude.{List}
+-- IsFew m            == at most 64 points and 128 triangles
+use Rattle.std.specs.Prelude.{◌≤◌, List, length}
 use Rattle.tv_spec_plane.specs.declared.records.Triple.{Triple}
 use Rattle.tv_spec_plane.specs.Plane.{Point, Segment}
 use Rattle.tv_spec_hull.specs.Hull.{IsHull}
@@ -21,3 +22,7 @@ pub record IsTriangulated (m : Mesh) : Type 0 where
   pub is_hull : IsHull m.points hull
   pub turned : AreTurned m.points m.triangles
   pub matched : IsMatched hull m.triangles
+
+pub record IsFew (m : Mesh) : Type 0 where
+  pub points : length m.points ≤ 64
+  pub triangles : length m.triangles ≤ 128

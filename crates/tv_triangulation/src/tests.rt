@@ -53,6 +53,9 @@ fn turns_a_clockwise_triangle(rt: HostRuntime) -> Result<(), Fail> {
     assert_eq!(rt; accepted.triangles(), want.as_slice());
     assert_eq!(rt; accepted.points().len(), 4);
     accepted.known();
+    let (points, triangles) = accepted.into_parts();
+    assert_eq!(rt; points.len(), 4);
+    assert_eq!(rt; triangles.as_slice(), want.as_slice());
     Ok(())
 }
 

@@ -1,8 +1,10 @@
 //! Points and triangles that tile their convex hull. How they are checked is told elsewhere.
 
 ghost use Rattle.std.specs.Prelude.{◌≡◌};
+ghost use Rattle.std.specs.List.{AllByRecursion};
 ghost use Rattle.tv_spec_plane.specs.Tiling.{Tiles};
-ghost use Rattle.tv_triangulation.specs.Mesh.{IsTriangulated};
+ghost use Rattle.tv_lattice.specs.Limits.{HasCoordinates};
+ghost use Rattle.tv_triangulation.specs.Mesh.{IsTriangulated, IsFew};
 
 use std::marker::Model;
 use tv_hull::hull::known;
@@ -17,18 +19,19 @@ pub struct Triangulation {
 }
 
 impl Model for Triangulation {
-    ghost use Rattle.tv_triangulation.specs.Mesh.{Mesh, IsTriangulated};
+    ghost use Rattle.tv_triangulation.specs.Mesh.{Mesh, IsTriangulated, IsFew};
 
     ghost Value = { Mesh };
 
     ghost view = { λ t. record { points = t.points.items; triangles = t.triangles.items } };
 
-    ghost invariant = { λ t. IsTriangulated (record { points = t.points.items; triangles = t.triangles.items }) };
+    ghost invariant = { λ t. IsTriangulated (record { points = t.points.items; triangles = t.triangles.items }) × IsFew (record { points = t.points.items; triangles = t.triangles.items }) };
 }
 
 impl Triangulation {
     pub(crate) fn new(points: Vec<Point>, triangles: Vec<Triple>) -> Triangulation
-        requires { IsTriangulated (record { points = points.items; triangles = triangles.items }) }
+        requires triangulated { IsTriangulated (record { points = points.items; triangles = triangles.items }) }
+        requires few { IsFew (record { points = points.items; triangles = triangles.items }) }
         ensures { result ≡ record { points = points.items; triangles = triangles.items } }
     {
         Triangulation { points, triangles }
@@ -47,10 +50,21 @@ impl Triangulation {
         &self.triangles
     }
 
-    /// Tells that the triangles match and tile the hull of the points, and does nothing.
+    /// The points and the triangles, for what is built of them.
+    pub fn into_parts(self) -> (Vec<Point>, Vec<Triple>)
+        ensures points { result.0.items ≡ self.points }
+        ensures triangles { result.1.items ≡ self.triangles }
+    {
+        (self.points, self.triangles)
+    }
+
+    /// Tells that the triangles match and tile the hull of the points, and that both are within the limits, and does
+    /// nothing.
     pub fn known(&self)
         ensures matched { IsTriangulated self.now }
         ensures tiles { Tiles self.now.points self.now.triangles }
+        ensures few { IsFew self.now }
+        ensures coordinates { AllByRecursion HasCoordinates self.now.points }
     {
         known(&self.points)
     }

@@ -3,3 +3,4 @@ pub mod Gathering
 pub mod Pairs
 pub mod Places
 pub mod Lists
+pub mod Ruled

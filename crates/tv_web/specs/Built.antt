@@ -3,13 +3,17 @@
 -- bare_web ps ts == the web of these points and triangles, without heights
 -- IsBuilt w cs os ks == at most 64 points and 128 triangles, and the lists are the compact edges, the open edges, of which
 --                       there are at most 4096 each, and the corners
+-- IsRuled w          == every compact edge has its rule, and the coordinates are within their limit
 use Rattle.std.specs.Prelude.{◌≡◌, ◌≤◌, List, [], length}
+use Rattle.std.specs.List.{AllByRecursion}
 use Rattle.tv_spec_plane.specs.declared.records.Triple.{Triple}
 use Rattle.tv_spec_plane.specs.declared.records.CompactEdge.{CompactEdge}
 use Rattle.tv_spec_plane.specs.declared.records.OuterEdge.{OuterEdge}
 use Rattle.tv_spec_plane.specs.declared.records.Corner.{Corner}
 use Rattle.tv_spec_plane.specs.Plane.{Point}
 use Rattle.tv_spec_plane.specs.Web.{Web, compact, outer, corners}
+use Rattle.tv_lattice.specs.Limits.{HasCoordinates}
+use Rattle.tv_edge_laws.specs.Rule.{HasEdgeRule}
 
 abbrev pub bare_web : List Point → List Triple → Web
 bare_web ps ts = record { points = ps; triangles = ts; heights = [] }
@@ -22,3 +26,7 @@ pub record IsBuilt (w : Web) (cs : List CompactEdge) (os : List OuterEdge) (ks :
   pub compact_is : cs ≡ compact w
   pub outer_is : os ≡ outer w
   pub corners_is : ks ≡ corners w
+
+pub record IsRuled (w : Web) : Type 0 where
+  pub rule : HasEdgeRule w
+  pub coordinates : AllByRecursion HasCoordinates w.points

@@ -1,5 +1,5 @@
-//! The web of a triangulation: its compact and open edges and its corners. Whether the triangles tile anything is not
-//! asked here.
+//! The web of a triangulation: its compact and open edges, each compact one with its rule, and its corners. Whether
+//! triangles tile is not looked at here.
 #![tactic(auto)]
 
 mod corners;

@@ -4,6 +4,7 @@ use crate::web::build_web;
 use std::test::Fail;
 use tv_lattice::point::Point;
 use tv_spec_plane::records::{CompactEdge, Corner, EdgeRef, OuterEdge, Triple};
+use tv_triangulation::triangulate::triangulate;
 
 #[test]
 fn lists_the_conifold(rt: HostRuntime) -> Result<(), Fail> {
@@ -15,7 +16,9 @@ fn lists_the_conifold(rt: HostRuntime) -> Result<(), Fail> {
     triangles.push(Triple { a: 0, b: 1, c: 2 })?;
     triangles.push(Triple { a: 0, b: 2, c: 3 })?;
     assert!(rt; points.len() == 4 && triangles.len() == 2);
-    let web = build_web(rt.alloc(), points, triangles)?;
+    let triangulation = triangulate(rt.alloc(), &points, &triangles)?;
+    let web = build_web(rt.alloc(), triangulation)?;
+    web.known();
     assert_eq!(rt; web.points().len(), 4);
     assert_eq!(rt; web.triangles().len(), 2);
     let compact = [CompactEdge {

@@ -1,7 +1,10 @@
-//! The web of points and triangles, with its edges and corners as lists. It carries no heights.
+//! The web of a triangulation, with its edges and corners as lists. It carries no heights.
 
-ghost use Rattle.std.specs.Prelude.{◌≡◌, ◌≤◌, length, IfOk, vec_len};
+ghost use Rattle.std.specs.Prelude.{◌≡◌, ◌≤◌, length, IfOk};
+ghost use Rattle.std.specs.List.{AllByRecursion};
 ghost use Rattle.tv_spec_plane.specs.Web.{compact, outer, corners};
+ghost use Rattle.tv_lattice.specs.Limits.{HasCoordinates};
+ghost use Rattle.tv_edge_laws.specs.Rule.{HasEdgeRule};
 ghost use Rattle.tv_web.specs.Built.{bare_web};
 
 use crate::corners::corners_of;
@@ -10,8 +13,9 @@ use std::alloc::{AllocError, Global};
 use std::marker::Model;
 use tv_lattice::point::Point;
 use tv_spec_plane::records::{CompactEdge, Corner, OuterEdge, Triple};
+use tv_triangulation::Triangulation;
 
-/// Points and triangles with the edges and corners that they make.
+/// Points and triangles that tile, with the edges and corners that they make.
 #[derive(Drop)]
 pub struct Web {
     points: Vec<Point>,
@@ -23,25 +27,21 @@ pub struct Web {
 
 impl Model for Web {
     ghost use Rattle.tv_spec_plane.specs.Web.{Web as WebValue};
-    ghost use Rattle.tv_web.specs.Built.{bare_web, IsBuilt};
+    ghost use Rattle.tv_web.specs.Built.{bare_web, IsBuilt, IsRuled};
 
     ghost Value = { WebValue };
 
     ghost view = { λ w. bare_web w.points.items w.triangles.items };
 
-    ghost invariant = { λ w. IsBuilt (bare_web w.points.items w.triangles.items) w.compact.items w.outer.items w.corners.items };
+    ghost invariant = { λ w. IsBuilt (bare_web w.points.items w.triangles.items) w.compact.items w.outer.items w.corners.items × IsRuled (bare_web w.points.items w.triangles.items) };
 }
 
-/// The web of at most 64 points and 128 triangles.
-pub fn build_web(
-    alloc: Global,
-    points: Vec<Point>,
-    triangles: Vec<Triple>,
-) -> Result<Web, AllocError>
-    requires few_points { vec_len points ≤ 64 }
-    requires few_triangles { vec_len triangles ≤ 128 }
-    ensures { IfOk result (λ web. web ≡ bare_web points.items triangles.items) }
+/// The web of the points and the turned triangles.
+pub fn build_web(alloc: Global, triangulation: Triangulation) -> Result<Web, AllocError>
+    ensures { IfOk result (λ web. web ≡ bare_web triangulation.points triangulation.triangles) }
 {
+    triangulation.known();
+    let (points, triangles) = triangulation.into_parts();
     let Edges { compact, outer } = edges_of(alloc, &triangles, points.len() as u32)?;
     let corners = corners_of(alloc, &triangles, &compact, &outer)?;
     Ok(Web {
@@ -89,5 +89,13 @@ impl Web {
         ensures { result.now ≡ corners self.now }
     {
         &self.corners
+    }
+
+    /// Tells that every compact edge has its rule and that the coordinates are within their limit, and does nothing.
+    pub fn known(&self)
+        ensures rule { HasEdgeRule self.now }
+        ensures coordinates { AllByRecursion HasCoordinates self.now.points }
+    {
+        let _ = self.points.len();
     }
 }
