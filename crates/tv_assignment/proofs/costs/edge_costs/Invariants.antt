@@ -1,0 +1,6 @@
+use Rattle.tv_spec_plane.specs.Web.{compact}
+use Rattle.tv_assignment.proofs.Summed.{IsSummed, cost_by}
+use Rattle.tv_assignment.proofs.costs.edge_costs.Given as goal
+
+abbrev pub invariant-loop-e : goal.invariant-loop-e
+invariant-loop-e l = IsSummed (cost_by l.web) 48001 (compact l.web) l.assignment l.e l.total

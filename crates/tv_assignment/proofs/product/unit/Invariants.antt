@@ -1,0 +1,10 @@
+use Rattle.std.proofs.Common.{◌≡◌, ◌≤◌, ◌<◌, []}
+use Rattle.tv_terms.specs.Terms.{listed}
+use Rattle.tv_assignment.specs.Terms.{front_times}
+use Rattle.tv_assignment.proofs.product.unit.Given as goal
+
+abbrev pub invariant-loop-i : goal.invariant-loop-i
+invariant-loop-i g l = record {
+  items : l.coefficients.items ≡ listed (front_times g.C.Ring.ring []) l.i;
+  first : 0 < l.i;
+}

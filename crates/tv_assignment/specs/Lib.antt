@@ -1,0 +1,5 @@
+pub mod Terms
+pub mod Listing
+pub mod Kept
+pub use Rattle.tv_spec_boxes.specs.Assignments
+pub use Rattle.tv_gluing.specs.Ways

@@ -1,0 +1,19 @@
+//! The assignments of a diagram to each compact edge of a web, as a list by degree, and the series of one of them over any
+//! ring. They are not added up here.
+#![tactic(auto)]
+
+mod assignment;
+mod corners;
+mod costs;
+mod legs;
+mod listing;
+mod product;
+mod series;
+mod signs;
+#[cfg(test)]
+mod tests;
+
+pub use assignment::Assignment;
+pub use corners::Corners;
+pub use listing::assignments_of;
+pub use series::assignment_series;

@@ -1,0 +1,159 @@
+//! Every assignment of degree at most a bound, written into a vector: edge by edge, of two diagrams on an edge the one of
+//! fewer cells first. It knows no class.
+
+ghost use Rattle.std.specs.Prelude.{◌≡◌, ◌<◌, ◌≤◌, ◌+◌, ◌*◌, ◌-◌, ◌++◌, ◌∷◌, [], true, false, map, length, IfOk, OnOk, MatchOption, nat_le};
+ghost use Rattle.tv_spec_plane.specs.Web.{compact, edge_degree};
+ghost use Rattle.tv_degrees.specs.Edges.{edge_at};
+ghost use Rattle.tv_spec_boxes.specs.Assignments.{assignments, choices, weight};
+ghost use Rattle.tv_assignment.specs.Listing.{behind, sized, degrees_of, AreSizes};
+
+use crate::assignment::{Assignment, copy_of};
+use std::alloc::{AllocError, Global};
+use tv_degrees::grade::GradedWeb;
+use tv_partition::all::{Diagrams, all_of};
+use tv_partition::diagram::Diagram;
+
+/// Every assignment of degree at most `d`, each once, in the order of `assignments`.
+pub fn assignments_of(alloc: Global, web: &GradedWeb, d: u32) -> Result<Vec<Assignment>, AllocError>
+    requires { d ≤ 24 }
+    ensures { IfOk result (λ all. all.items ≡ assignments web.now d) }
+{
+    let degrees = degrees_of(alloc, web)?;
+    let sizes = sizes_to(alloc, d)?;
+    let mut all = Vec::new(alloc);
+    let mut front = Vec::new(alloc);
+    push_choices(&mut all, &mut front, &sizes, &degrees, d)?;
+    Ok(all)
+}
+
+// The degrees of the compact edges.
+fn degrees_of(alloc: Global, web: &GradedWeb) -> Result<Vec<u64>, AllocError>
+    ensures { IfOk result (λ degrees. degrees.items ≡ degrees_of web.now) }
+{
+    let mut degrees = Vec::new(alloc);
+    for e in 0..web.compact().len() as u32 {
+        degrees.push(degree_at(web, e))?;
+    }
+    Ok(degrees)
+}
+
+fn degree_at(web: &GradedWeb, e: u32) -> u64
+    requires { e < length (compact web.now) }
+    ensures { result ≡ weight (edge_degree web.now (edge_at web.now e)) }
+{
+    web.degree_of(e) as u64
+}
+
+// The diagrams of each size up to d, listed once.
+fn sizes_to(alloc: Global, d: u32) -> Result<Vec<Diagrams>, AllocError>
+    requires { d ≤ 24 }
+    ensures sizes { IfOk result (λ sizes. AreSizes sizes.items) }
+    ensures all { IfOk result (λ sizes. length sizes.items ≡ d + 1) }
+{
+    let mut sizes = Vec::new(alloc);
+    for size in 0..d + 1 {
+        sizes.push(all_of(alloc, size)?)?;
+    }
+    Ok(sizes)
+}
+
+#[cycle(choosing)]
+fn push_choices(
+    all: &mut Vec<Assignment>,
+    front: &mut Vec<Diagram>,
+    sizes: &[Diagrams],
+    degrees: &[u64],
+    left: u32,
+) -> Result<(), AllocError>
+    requires sizes { AreSizes sizes.now }
+    requires listed { left < length sizes.now }
+    requires few { left ≤ 24 }
+    ensures all { OnOk result (all.new.items ≡ all.old.items ++ behind front.old.items (choices degrees.now left)) }
+    ensures front { OnOk result (front.new.items ≡ front.old.items) }
+{
+    let Some((degree, later)) = degrees.split_first() else {
+        return push_copy(all, front.as_slice());
+    };
+    for size in 0..left + 1 {
+        push_sized(all, front, sizes, later, left, *degree, size)?;
+    }
+    Ok(())
+}
+
+// The assignments whose next diagram has that size.
+#[cycle(choosing)]
+fn push_sized(
+    all: &mut Vec<Assignment>,
+    front: &mut Vec<Diagram>,
+    sizes: &[Diagrams],
+    later: &[u64],
+    left: u32,
+    degree: u64,
+    size: u32,
+) -> Result<(), AllocError>
+    requires sizes { AreSizes sizes.now }
+    requires listed { left < length sizes.now }
+    requires few { left ≤ 24 }
+    requires within { size ≤ left }
+    ensures all { OnOk result (all.new.items ≡ all.old.items ++ sized front.old.items later.now left degree size) }
+    ensures front { OnOk result (front.new.items ≡ front.old.items) }
+{
+    let Some(rest) = left_beside(left, degree, size) else {
+        return Ok(());
+    };
+    let diagrams = &sizes[size as usize];
+    for k in 0..diagrams.len() {
+        let Some(diagram) = diagrams.at(k) else {
+            return Ok(());
+        };
+        push_behind(all, front, sizes, later, rest, diagram)?;
+    }
+    Ok(())
+}
+
+// The assignments with that diagram next.
+#[cycle(choosing)]
+fn push_behind(
+    all: &mut Vec<Assignment>,
+    front: &mut Vec<Diagram>,
+    sizes: &[Diagrams],
+    later: &[u64],
+    left: u32,
+    diagram: &Diagram,
+) -> Result<(), AllocError>
+    requires sizes { AreSizes sizes.now }
+    requires listed { left < length sizes.now }
+    requires few { left ≤ 24 }
+    ensures all { OnOk result (all.new.items ≡ all.old.items ++ behind (front.old.items ++ diagram.now ∷ []) (choices later.now left)) }
+    ensures front { OnOk result (front.new.items ≡ front.old.items) }
+{
+    front.push(copy_of(*all.allocator(), diagram)?)?;
+    push_choices(all, front, sizes, later, left)?;
+    let _ = front.pop();
+    Ok(())
+}
+
+// The degree that is left beside a diagram of that size on an edge of that degree, none where it has too many cells.
+fn left_beside(left: u32, degree: u64, size: u32) -> Option<u32>
+    requires { left ≤ 24 }
+    ensures { MatchOption result (nat_le (size * degree) left ≡ false) (λ rest. (nat_le (size * degree) left ≡ true) × (rest ≡ left - size * degree)) }
+{
+    let spent = u64::from(size).checked_mul(degree)?;
+    if spent <= u64::from(left) {
+        Some(left - spent as u32)
+    } else {
+        None
+    }
+}
+
+fn push_copy(all: &mut Vec<Assignment>, front: &[Diagram]) -> Result<(), AllocError>
+    ensures { OnOk result (all.new.items ≡ all.old.items ++ front.now ∷ []) }
+{
+    let alloc = *all.allocator();
+    let mut diagrams = Vec::new(alloc);
+    for diagram in front {
+        diagrams.push(copy_of(alloc, diagram)?)?;
+    }
+    all.push(Assignment::new(diagrams))?;
+    Ok(())
+}

@@ -1,0 +1,24 @@
+use Rattle.std.proofs.Common.{◌≡◌, ◌+◌, ◌∙◌, ap, arith, length, get_or, w64, to_z}
+use Rattle.tv_spec_plane.specs.Web.{compact}
+use Rattle.tv_glue.proofs.Entries.{added-first, added-next, added-last, added-bound, read_total}
+use Rattle.tv_glue.proofs.class.entry_of.Goals as goal
+
+pub loop-e-init : goal.loop-e-init
+loop-e-init c = added-first c.args.web.now c.args.assignment.now c.args.k c.requires.few
+
+pub loop-e-preserved : goal.loop-e-preserved
+loop-e-preserved c =
+    let w = c.args.web.now in let a = c.args.assignment.now in
+    let listed : length c.compact.result.now ≡ length (compact w) = ap length c.compact.ensures.value in
+    let each = c.requires.one_each in
+    let here : c.index-diagrams-e.result ≡ get_or a c.loop-e.e c.index-diagrams-e.result = c.index-diagrams-e.is ∙ ap (λ ds. get_or ds c.loop-e.e c.index-diagrams-e.result) c.diagrams-diagrams.ensures in
+    let next = added-next w a c.args.k c.loop-e.e c.index-diagrams-e.result _ c.entry_at-total.result (omega arith) (omega arith) here c.entry_at-total.ensures.value c.entry_at-total.ensures.bound c.loop-e.invariant in
+    let before = added-bound w a c.args.k c.loop-e.e _ c.loop-e.invariant in
+    let after = added-bound w a c.args.k (c.loop-e.e + 1) _ next in
+    rw (read_total (to_z w64 c.loop-e.total-bits) c.entry_at-total.result (omega arith) (omega arith)) next
+
+pub returns-clause-value : goal.returns-clause-value
+returns-clause-value c =
+    let w = c.args.web.now in
+    let listed : length c.compact.result.now ≡ length (compact w) = ap length c.compact.ensures.value in
+    added-last w c.args.assignment.now c.args.k c.loop-e.e _ (omega arith) c.loop-e.invariant

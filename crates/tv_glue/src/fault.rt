@@ -1,0 +1,37 @@
+//! Why there is no full family. It names a class, and no exponent.
+
+use std::alloc::{AllocError, AllocFailed};
+use thiserror::Error;
+use tv_lattice::class::Class;
+
+/// The configurations of a class are too many, or want of memory.
+#[derive(Debug, Drop, Error)]
+pub enum GlueFault {
+    /// The class whose coefficient, or a number on the way to it, is too wide.
+    #[error("a coefficient, or a number on the way to it, is too wide")]
+    Wide(Class),
+    #[error("out of memory")]
+    Memory,
+}
+
+impl<T: Drop> From<AllocFailed<T>> for GlueFault {
+    ghost use Rattle.tv_glue.specs.declared.fault.GlueFault.TheVariants.{Memory};
+    ghost use Rattle.std.specs.Prelude.{◌≡◌};
+
+    ghost from_gives = { λ _ e. e ≡ Memory };
+
+    fn from(_e: AllocFailed<T>) -> GlueFault {
+        GlueFault::Memory
+    }
+}
+
+impl From<AllocError> for GlueFault {
+    ghost use Rattle.tv_glue.specs.declared.fault.GlueFault.TheVariants.{Memory};
+    ghost use Rattle.std.specs.Prelude.{◌≡◌};
+
+    ghost from_gives = { λ _ e. e ≡ Memory };
+
+    fn from(_e: AllocError) -> GlueFault {
+        GlueFault::Memory
+    }
+}

@@ -1,0 +1,4 @@
+pub mod Totals
+pub mod Glued
+pub mod Full
+pub mod Wide

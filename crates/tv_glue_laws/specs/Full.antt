@@ -1,0 +1,37 @@
+-- The full series of every class: the signed counts of its configurations.
+--
+-- HasCounts r w fixed n row == each coefficient of the row through n is the signed count of its class there, times one
+-- IsFullRow r w fixed d n row == and its series is known through n, and starts at the lowest exponent or above, or beyond n
+-- IsFull r w fixed d n f == the heights are those of the web, the degrees go to d and the exponents to n, the rows are the
+--                          classes that assignments of degree at most d have, each once, in order, and each row is full
+-- FullIsOnly r          == two full families of one web have the same coefficients through n, whatever the class
+use Rattle.std.specs.Prelude.{◌≡◌, ℕ, ℤ, pos, ◌+ℤ◌, ◌≤ℤ◌, List}
+use Rattle.std.specs.Int.{int_min}
+use Rattle.std.specs.List.{AllByRecursion}
+use Rattle.tv_ring.specs.Operations.{Operations}
+use Rattle.tv_ring.specs.Sums.{whole_times}
+use Rattle.tv_terms.specs.Terms.{upto}
+use Rattle.tv_spec_plane.specs.Web.{Web}
+use Rattle.tv_spec_boxes.specs.Assignments.{Rows}
+use Rattle.tv_spec_boxes.specs.Classes.{AreClasses}
+use Rattle.tv_spec_boxes.specs.Configurations.{signed_count}
+use Rattle.tv_spec_boxes.specs.Numbers.{lowest}
+use Rattle.tv_spec_series.specs.Families.{Row, Family, classes, coefficient, coefficient_of}
+
+abbrev pub HasCounts : {A : Type 0} → Operations A → Web → List Rows → ℤ → Row A → Type 0
+HasCounts r w fixed n row = (i : ℤ) → i ≤ℤ n → coefficient r row.series i ≡ whole_times r (signed_count w fixed row.class i)
+
+pub record IsFullRow {A : Type 0} (r : Operations A) (w : Web) (fixed : List Rows) (d : ℕ) (n : ℤ) (row : Row A) : Type 0 where
+  pub counts : HasCounts r w fixed n row
+  pub known : upto row.series ≡ n
+  pub low : int_min (lowest w fixed d) (n +ℤ pos 1) ≤ℤ row.series.low
+
+pub record IsFull {A : Type 0} (r : Operations A) (w : Web) (fixed : List Rows) (d : ℕ) (n : ℤ) (f : Family A) : Type 0 where
+  pub heights : f.heights ≡ w.heights
+  pub top : f.top ≡ pos d
+  pub upto : f.upto ≡ n
+  pub classes : AreClasses w d (classes f.rows)
+  pub rows : AllByRecursion (IsFullRow r w fixed d n) f.rows
+
+abbrev pub FullIsOnly : {A : Type 0} → Operations A → Type 0
+FullIsOnly {A} r = (w : Web) (fixed : List Rows) (d : ℕ) (n : ℤ) (f g : Family A) → IsFull r w fixed d n f → IsFull r w fixed d n g → (v : List ℤ) (i : ℤ) → i ≤ℤ n → coefficient_of r f v i ≡ coefficient_of r g v i
