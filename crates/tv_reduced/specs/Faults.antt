@@ -1,0 +1,41 @@
+-- Why there is no family of reduced series.
+--
+-- IsCrowded r w d n v      == the crowd of the class, times the size of one, exceeds the limit
+-- IsSpreadOut r w d n v m  == the class is one of degree at most d, and so does its spread at the exponent m, of at most n
+-- OnCrowd fault P          == P holds of the class of a fault that is Crowd, and the fault is no Spread
+-- OnSpread fault P         == P holds of the class and the exponent of a fault that is Spread, and the fault is no Crowd
+-- IsReducedFault r w d n e == e names a class whose crowd is too wide, or a class and an exponent at which the spread is, or
+--                             is want of memory
+use Rattle.std.specs.Prelude.{ℕ, ◌*◌, ◌<◌, ℤ, List, ⊤}
+use Rattle.tv_ring.specs.Operations.{Operations, limit}
+use Rattle.tv_spec_plane.specs.Web.{Web}
+use Rattle.tv_spec_boxes.specs.Assignments.{no_legs}
+use Rattle.tv_spec_boxes.specs.Classes.{IsClass}
+use Rattle.tv_spec_boxes.specs.Numbers.{crowd}
+use Rattle.tv_spec_series.specs.Reduced.{IsSpread}
+use Rattle.tv_reduced.specs.declared.fault.ReducedFault.{ReducedFault}
+use Rattle.tv_reduced.specs.declared.fault.ReducedFault.TheVariants.{Crowd, Spread, Memory}
+
+abbrev pub IsCrowded : {A : Type 0} → Operations A → Web → ℕ → ℤ → List ℤ → Type 0
+IsCrowded r w d n v = limit < crowd w (no_legs w) d n v * r.size r.unit
+
+pub record IsSpreadOut {A : Type 0} (r : Operations A) (w : Web) (d : ℕ) (n : ℤ) (v : List ℤ) (m : ℤ) : Type 0 where
+  pub class : IsClass w d v
+  pub number : ℕ
+  pub spread : IsSpread w (no_legs w) n v m number
+  pub wide : limit < number * r.size r.unit
+
+abbrev pub OnCrowd : ReducedFault → (List ℤ → Type 0) → Type 0
+OnCrowd (Crowd v) P = P v
+OnCrowd (Spread v m) P = ⊥
+OnCrowd Memory P = ⊤
+
+abbrev pub OnSpread : ReducedFault → (List ℤ → ℤ → Type 0) → Type 0
+OnSpread (Crowd v) P = ⊥
+OnSpread (Spread v m) P = P v m
+OnSpread Memory P = ⊤
+
+abbrev pub IsReducedFault : {A : Type 0} → Operations A → Web → ℕ → ℤ → ReducedFault → Type 0
+IsReducedFault r w d n (Crowd v) = IsCrowded r w d n v
+IsReducedFault r w d n (Spread v m) = IsSpreadOut r w d n v m
+IsReducedFault r w d n Memory = ⊤

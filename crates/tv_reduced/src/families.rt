@@ -1,0 +1,96 @@
+//! The family of reduced series: the full family, with the series of class zero divided out of each class.
+
+ghost use Rattle.std.specs.Prelude.{◌≡◌, ◌≤◌, ◌≤ℤ◌, negsuc, unsigned_abs, IfOk, IfErr};
+ghost use Rattle.std.specs.List.{AllByRecursion};
+ghost use Rattle.tv_terms.specs.Quotients.{quotient_upto, IsUnitSeries};
+ghost use Rattle.tv_laurent.specs.QuotientCalls.{QuotientReaches};
+ghost use Rattle.tv_spec_boxes.specs.Assignments.{no_legs};
+ghost use Rattle.tv_spec_boxes.specs.Numbers.{lowest};
+ghost use Rattle.tv_spec_series.specs.Families.{divided};
+ghost use Rattle.tv_graded.specs.Calls.{IsDividedWide};
+ghost use Rattle.tv_glue_laws.specs.Full.{IsFull};
+ghost use Rattle.tv_reduced_laws.specs.Families.{IsReducedFamily};
+ghost use Rattle.tv_reduced.specs.Faults.{IsReducedFault, OnCrowd, OnSpread, IsCrowded};
+
+use crate::divisor::divisor;
+use crate::fault::ReducedFault;
+use crate::order::order_of;
+use std::alloc::Global;
+use tv_degrees::grade::GradedWeb;
+use tv_glue::{GlueFault, full};
+use tv_graded::{Graded, GradedFault};
+use tv_laurent::Series;
+use tv_ring::Ring;
+
+/// The reduced series of every class of degree at most `d` through the exponent `n`, from -64 to 64: the one series whose
+/// product with that of class zero is the full one (Maulik, Nekrasov, Okounkov and Pandharipande).
+pub fn reduced<C: Ring>(
+    alloc: Global,
+    web: &GradedWeb,
+    d: u32,
+    n: i64,
+) -> Result<Graded<C>, ReducedFault>
+    requires degree { d ≤ 24 }
+    requires order { unsigned_abs n ≤ 64 }
+    ensures reduced { IfOk result (λ family. IsReducedFamily C.ring web.now (no_legs web.now) d n family) }
+
+    // Crowd only with a class of too many configurations, Spread only with a class and an exponent at which the numbers that
+    // meet in the division are too large.
+    ensures wide { IfErr result (IsReducedFault C.ring web.now d n) }
+{
+    web.known();
+    lowest_known(web, d);
+    let family = full_family(alloc, web, d, n)?;
+    family.known();
+    let order = order_of(&family, n);
+    match divisor(alloc, web, order as u32) {
+        Ok(zero) => {
+            zero.known();
+            divided_by(&family, &zero)
+        }
+        Err(fault) => Err(fault),
+    }
+}
+
+// The family with each series divided, and the fault of a division as one of reduced series.
+fn divided_by<C: Ring>(family: &Graded<C>, zero: &Series<C>) -> Result<Graded<C>, ReducedFault>
+    requires unit { IsUnitSeries C.ring zero.now }
+    requires known { AllByRecursion (λ row. family.now.upto ≤ℤ quotient_upto row.series zero.now) family.now.rows }
+    requires reaches { AllByRecursion (λ row. QuotientReaches C.ring row.series zero.now) family.now.rows }
+    ensures value { IfOk result (λ d. d ≡ divided C.ring zero.now family.now) }
+    ensures wide { IfErr result (λ e. OnSpread e (IsDividedWide C.ring zero.now family.now)) }
+{
+    match family.div_zero(zero) {
+        Ok(quotients) => Ok(quotients),
+        Err(GradedFault::Wide { class, exponent }) => Err(ReducedFault::Spread { class, exponent }),
+        Err(GradedFault::Memory) => Err(ReducedFault::Memory),
+    }
+}
+
+// The full family, with its fault as one of reduced series.
+fn full_family<C: Ring>(
+    alloc: Global,
+    web: &GradedWeb,
+    d: u32,
+    n: i64,
+) -> Result<Graded<C>, ReducedFault>
+    requires degree { d ≤ 24 }
+    requires order { unsigned_abs n ≤ 64 }
+    ensures full { IfOk result (λ family. IsFull C.ring web.now (no_legs web.now) d n family) }
+    ensures wide { IfErr result (λ e. OnCrowd e (IsCrowded C.ring web.now d n)) }
+{
+    match full(alloc, web, d, n) {
+        Ok(family) => Ok(family),
+        Err(GlueFault::Wide(class)) => Err(ReducedFault::Crowd(class)),
+        Err(GlueFault::Memory) => Err(ReducedFault::Memory),
+    }
+}
+
+// Answers nothing, and tells that no assignment starts far below exponent 0.
+fn lowest_known(web: &GradedWeb, d: u32)
+    requires { d ≤ 24 }
+    ensures { negsuc 9999999 ≤ℤ lowest web.now (no_legs web.now) d }
+{
+    web.known();
+    let _few = web.web().triangles().len();
+}

@@ -1,0 +1,35 @@
+-- Families of reduced series.
+--
+-- IsReducedRow r w fixed n row == the row's coefficients through n are those of the reduced series of its class, times one
+-- IsReducedFamily r w fixed d n f == the heights are those of the web, the degrees go to d and the exponents to n, the rows
+--                          are the classes that assignments of degree at most d have, each once, in order, and each row is
+--                          reduced
+-- IsDivisor r w fixed b == b begins with one at exponent 0, and its coefficients are those of class zero, times one
+use Rattle.std.specs.Prelude.{◌≡◌, ℕ, ℤ, pos, ◌≤ℤ◌, List}
+use Rattle.std.specs.List.{AllByRecursion}
+use Rattle.tv_ring.specs.Operations.{Operations}
+use Rattle.tv_ring.specs.Sums.{whole_times}
+use Rattle.tv_terms.specs.Terms.{Terms, upto}
+use Rattle.tv_terms.specs.Quotients.{IsUnitSeries}
+use Rattle.tv_spec_plane.specs.Web.{Web}
+use Rattle.tv_spec_boxes.specs.Assignments.{Rows}
+use Rattle.tv_spec_boxes.specs.Classes.{AreClasses}
+use Rattle.tv_spec_series.specs.Families.{Row, Family, classes, coefficient}
+use Rattle.tv_spec_series.specs.Reduced.{IsReduced, zero_coefficient}
+
+pub record IsReducedRow {A : Type 0} (r : Operations A) (w : Web) (fixed : List Rows) (n : ℤ) (row : Row A) : Type 0 where
+  pub series : ℤ → ℤ
+  pub reduced : IsReduced w fixed n row.class series
+  pub values : (i : ℤ) → i ≤ℤ n → coefficient r row.series i ≡ whole_times r (series i)
+  pub known : upto row.series ≡ n
+
+pub record IsReducedFamily {A : Type 0} (r : Operations A) (w : Web) (fixed : List Rows) (d : ℕ) (n : ℤ) (f : Family A) : Type 0 where
+  pub heights : f.heights ≡ w.heights
+  pub top : f.top ≡ pos d
+  pub upto : f.upto ≡ n
+  pub classes : AreClasses w d (classes f.rows)
+  pub rows : AllByRecursion (IsReducedRow r w fixed n) f.rows
+
+pub record IsDivisor {A : Type 0} (r : Operations A) (w : Web) (fixed : List Rows) (b : Terms A) : Type 0 where
+  pub unit : IsUnitSeries r b
+  pub values : (j : ℤ) → j ≤ℤ upto b → coefficient r b j ≡ whole_times r (zero_coefficient w fixed j)

@@ -1,0 +1,28 @@
+-- What is true of reduced series, as laws.
+--
+-- OnlyQuotient  == of two quotients of z by g, through n, each is the other through n, where g is 1 at 0
+-- HasUnit g     == g is 1 at 0, and 0 below
+-- BeginsWithOne == the full series of class zero, with all open edges empty, is 1 at exponent 0 and 0 below
+-- NothingBelow  == the full series of a class of degree at most d is 0 below the lowest exponent
+use Rattle.std.specs.Prelude.{◌≡◌, ℕ, ℤ, pos, ◌≤ℤ◌, ◌<ℤ◌, List}
+use Rattle.std.specs.List.{AllByRecursion}
+use Rattle.tv_spec_plane.specs.Web.{Web, degree_of}
+use Rattle.tv_partition.specs.Rows.{IsDiagram}
+use Rattle.tv_degrees.specs.Grades.{IsGraded}
+use Rattle.tv_spec_boxes.specs.Assignments.{Rows, no_legs}
+use Rattle.tv_spec_boxes.specs.Configurations.{signed_count}
+use Rattle.tv_spec_boxes.specs.Numbers.{lowest}
+use Rattle.tv_spec_series.specs.Reduced.{IsQuotient, zero_coefficient}
+
+abbrev pub OnlyQuotient : Type 0
+OnlyQuotient = (n : ℤ) (z g f h : ℤ → ℤ) → g (pos 0) ≡ pos 1 → IsQuotient n z g f → IsQuotient n z g h → (i : ℤ) → i ≤ℤ n → f i ≡ h i
+
+pub record HasUnit (g : ℤ → ℤ) : Type 0 where
+  pub unit : g (pos 0) ≡ pos 1
+  pub none : (n : ℤ) → n <ℤ pos 0 → g n ≡ pos 0
+
+abbrev pub BeginsWithOne : Type 0
+BeginsWithOne = (w : Web) → IsGraded w → HasUnit (zero_coefficient w (no_legs w))
+
+abbrev pub NothingBelow : Type 0
+NothingBelow = (w : Web) (fixed : List Rows) (d : ℕ) (v : List ℤ) (n : ℤ) → IsGraded w → AllByRecursion IsDiagram fixed → degree_of w.heights v ≤ℤ pos d → n <ℤ lowest w fixed d → signed_count w fixed v n ≡ pos 0

@@ -1,0 +1,18 @@
+//! Laws of reduced series: each function does nothing, and its contract is a law.
+
+ghost use Rattle.tv_reduced_laws.specs.Laws.{OnlyQuotient, BeginsWithOne, NothingBelow};
+
+/// Of two quotients, through n, by one series that is 1 at exponent 0, each is the other through n.
+pub fn only_quotient()
+    ensures { OnlyQuotient }
+{}
+
+/// The series of class zero of a graded web, with all open edges empty, is 1 at exponent 0 and 0 below.
+pub fn class_zero_begins_with_one()
+    ensures { BeginsWithOne }
+{}
+
+/// The signed count of a class of degree at most d is 0 below the lowest exponent of that degree.
+pub fn nothing_below_the_lowest()
+    ensures { NothingBelow }
+{}
