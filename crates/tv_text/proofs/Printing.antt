@@ -1,5 +1,5 @@
 -- Texts that are printed piece by piece.
-use Rattle.std.proofs.Common.{Vec, Global, ◌≡◌, ℕ, ℤ, ◌+◌, ◌<◌, ◌≤◌, List, [], ◌∷◌, ◌++◌, length, map, take, get_or, refl, sym, ◌∙◌, ap, append_assoc, append-nil}
+use Rattle.std.proofs.Common.{◌≡◌, ℕ, ℤ, ◌+◌, ◌<◌, ◌≤◌, List, [], ◌∷◌, ◌++◌, length, map, take, get_or, refl, sym, ◌∙◌, ap, append_assoc, append-nil}
 use Rattle.std.specs.Prelude.{codes}
 use Rattle.std.specs.List.{flat_map, join_with_byte}
 use Rattle.std.proofs.lemmas.List.{take_more, take_all, flat_map_more}
@@ -7,13 +7,8 @@ use Rattle.std.proofs.lemmas.List.Concat.{flat_map-append}
 use Rattle.std.proofs.lemmas.List.Folds.{flat_map-map}
 use Rattle.tv_spec_text.specs.Reports.{Term, Section, term_line, section_lines}
 use Rattle.tv_spec_text.specs.Lines.{Word, Line, line_text, spelled}
-use Rattle.tv_text.specs.declared.series.Kind.{Kind}
-use Rattle.tv_text.specs.declared.series.Kind.TheVariants.{Full}
-use Rattle.tv_text.specs.declared.refusal.WideNumber.{WideNumber}
-use Rattle.tv_text.specs.declared.refusal.WideNumber.TheVariants.{Crowd}
 use Rattle.tv_text.specs.Printed.{spaced}
-use Rattle.tv_text.specs.Refusals.{crowd_line}
-use Rattle.tv_text.specs.Sections.{kind_word}
+use Rattle.tv_text.specs.Refusals.{crowd_line, spread_line}
 
 pub flat_map-step : {A : Type 0} (f : A → List ℕ) (old now next : List ℕ) (xs : List A) (i : ℕ) (d : A) → i < length xs → now ≡ old ++ flat_map f (take i xs) → next ≡ now ++ f (get_or xs i d) → next ≡ old ++ flat_map f (take (i + 1) xs)
 flat_map-step f old now next xs i d h e n =
@@ -33,9 +28,6 @@ unfolding line_text
 line_text-numbers old now next w zs e n =
     n ∙ ap (λ t. t ++ (spaced zs ++ 10 ∷ [])) e ∙ append_assoc old w (spaced zs ++ 10 ∷ []) ∙ ap (λ t. old ++ t) (sym (append_assoc w (spaced zs) (10 ∷ [])) ∙ ap (λ t. t ++ 10 ∷ []) (sym (join-numbers w zs)))
 
-pub kind_word-full : (k : Kind) → kind_word k ≡ codes "full"
-kind_word-full Full = refl
-
 pub line_text-class : (old now next : List ℕ) (d : ℤ) (zs : List ℤ) → now ≡ old ++ (codes "class" ++ (32 ∷ spelled d)) → next ≡ now ++ (spaced zs ++ 10 ∷ []) → next ≡ old ++ line_text (codes "class" ∷ map spelled (d ∷ zs))
 line_text-class old now next d zs e n =
     let whole : next ≡ (old ++ codes "class") ++ (spaced (d ∷ zs) ++ 10 ∷ []) = n ∙ ap (λ t. t ++ (spaced zs ++ 10 ∷ [])) e ∙ simp append_assoc in
@@ -46,6 +38,14 @@ unfolding line_text
 line_text-crowd old now next zs e n =
     line_text-numbers old now next (codes "refused wide crowd class") zs e n
     ∙ ap (λ t. old ++ (t ++ 10 ∷ [])) (join-numbers (codes "refused wide crowd class") zs ∙ sym (ap (λ t. codes "refused wide crowd " ++ t) (join-numbers (codes "class") zs)))
+
+-- words, of which each but the first has a space before it, and the numbers
+pub line_text-spread : (old now next : List ℕ) (n : ℤ) (zs : List ℤ) → now ≡ old ++ (codes "refused wide spread " ++ (spelled n ++ codes " class")) → next ≡ now ++ (spaced zs ++ 10 ∷ []) → next ≡ old ++ line_text (spread_line n zs)
+unfolding line_text
+line_text-spread old now next n zs e d =
+    let front = codes "refused wide spread " ++ (spelled n ++ codes " class") in
+    let last : join_with_byte 32 (spread_line n zs) ≡ front ++ spaced zs = ap (λ t. codes "refused wide spread " ++ (spelled n ++ (32 ∷ t))) (join-numbers (codes "class") zs) ∙ ap (λ t. codes "refused wide spread " ++ t) (sym (append_assoc (spelled n) (codes " class") (spaced zs))) in
+    d ∙ ap (λ t. t ++ (spaced zs ++ 10 ∷ [])) e ∙ append_assoc old front (spaced zs ++ 10 ∷ []) ∙ ap (λ t. old ++ t) (sym (append_assoc front (spaced zs) (10 ∷ [])) ∙ ap (λ t. t ++ 10 ∷ []) (sym last))
 
 pub flat_map-whole : {A : Type 0} (f : A → List ℕ) (old now : List ℕ) (xs : List A) (i : ℕ) → length xs ≤ i → now ≡ old ++ flat_map f (take i xs) → now ≡ old ++ flat_map f xs
 flat_map-whole f old now xs i h e = e ∙ ap (λ z. old ++ flat_map f z) (take_all i xs h)
@@ -62,6 +62,3 @@ flat_map-parts head body e t u v first second third =
     let last : flat_map line_text (body ++ e ∷ []) ≡ flat_map line_text body ++ line_text e = flat_map-append line_text body (e ∷ []) ∙ ap (λ z. flat_map line_text body ++ z) (append-nil (line_text e)) in
     third ∙ ap (λ z. z ++ line_text e) second ∙ append_assoc t (flat_map line_text body) (line_text e) ∙ ap (λ z. z ++ (flat_map line_text body ++ line_text e)) first
     ∙ ap (λ z. flat_map line_text head ++ z) (sym last) ∙ sym (flat_map-append line_text head (body ++ (e ∷ [])))
-
-pub only_crowd : (w : WideNumber) → (v : Vec ℤ Global) × (w ≡ Crowd v)
-only_crowd (Crowd v) = (v, refl)

@@ -3,6 +3,7 @@
 -- excess_line e   == the line of a count or a number over its limit
 -- fault_line f    == the line of a file that is refused
 -- crowd_line v    == the line of a class with too many configurations
+-- spread_line n v == the line of a reduced coefficient at n of a class that would be too wide
 -- wide_line w     == the line of a number that would be too wide
 -- refusal_line r  == the line of a refusal
 use Rattle.std.specs.Prelude.{ℤ, pos, List, [], ◌∷◌, map, codes}
@@ -12,7 +13,7 @@ use Rattle.tv_lattice.specs.declared.fault.FileFault.{FileFault}
 use Rattle.tv_lattice.specs.declared.fault.FileFault.TheVariants.{TooLong, Line, Json, TooMany, Repeated, Index, Flat, Area, Twice, Unmatched, Bare, HeightCount, Degree}
 use Rattle.tv_spec_text.specs.Lines.{Line as Words, spelled}
 use Rattle.tv_text.specs.declared.refusal.WideNumber.{WideNumber}
-use Rattle.tv_text.specs.declared.refusal.WideNumber.TheVariants.{Crowd}
+use Rattle.tv_text.specs.declared.refusal.WideNumber.TheVariants.{Crowd, Spread}
 use Rattle.tv_text.specs.declared.refusal.Refusal.{Refusal}
 use Rattle.tv_text.specs.declared.refusal.Refusal.TheVariants.{Words as AtWord, File, Wide}
 
@@ -44,8 +45,12 @@ fault_line (Degree a b d) = file_line (codes "12" ∷ spelled (pos a) ∷ spelle
 abbrev pub crowd_line : List ℤ → Words
 crowd_line v = codes "refused" ∷ codes "wide" ∷ codes "crowd" ∷ codes "class" ∷ map spelled v
 
+abbrev pub spread_line : ℤ → List ℤ → Words
+spread_line n v = codes "refused" ∷ codes "wide" ∷ codes "spread" ∷ spelled n ∷ codes "class" ∷ map spelled v
+
 abbrev pub wide_line : WideNumber → Words
 wide_line (Crowd entries) = crowd_line entries.items
+wide_line (Spread exponent entries) = spread_line exponent entries.items
 
 abbrev pub refusal_line : Refusal → Words
 refusal_line (AtWord k) = codes "refused" ∷ codes "words" ∷ spelled (pos k) ∷ []

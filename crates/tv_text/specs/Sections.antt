@@ -7,10 +7,11 @@
 use Rattle.std.specs.Prelude.{ℤ, List, [], ◌∷◌, map, codes}
 use Rattle.tv_spec_text.specs.Lines.{Word, Line, spelled}
 use Rattle.tv_text.specs.declared.series.Kind.{Kind}
-use Rattle.tv_text.specs.declared.series.Kind.TheVariants.{Full}
+use Rattle.tv_text.specs.declared.series.Kind.TheVariants.{Full, Reduced}
 
 abbrev pub kind_word : Kind → Word
 kind_word Full = codes "full"
+kind_word Reduced = codes "reduced"
 
 abbrev pub title_line : Word → Line
 title_line w = codes "report" ∷ codes "series" ∷ w ∷ []

@@ -2,7 +2,7 @@
 
 ghost use Rattle.std.specs.Prelude.{◌≡◌, ◌++◌, IfOk, OnOk, string_bytes};
 ghost use Rattle.tv_spec_text.specs.Lines.{line_text};
-ghost use Rattle.tv_text.specs.Refusals.{crowd_line, excess_line, fault_line, wide_line, refusal_line};
+ghost use Rattle.tv_text.specs.Refusals.{crowd_line, excess_line, fault_line, spread_line, wide_line, refusal_line};
 
 use crate::numbers::end_with_numbers;
 use std::alloc::{AllocError, Global};
@@ -11,7 +11,10 @@ use tv_lattice::fault::{Excess, FileFault};
 /// A number that would be wider than 127 bits, by the class at which it is.
 #[derive(Debug, Drop)]
 pub enum WideNumber {
+    /// The number of configurations of the class.
     Crowd { entries: Vec<i64> },
+    /// The sum of the sizes that make the reduced coefficient of the class at the exponent.
+    Spread { exponent: i64, entries: Vec<i64> },
 }
 
 /// Why nothing is answered: the words of the command from the given place on, the file, or a number too wide.
@@ -80,6 +83,7 @@ fn put_wide(text: &mut String, wide: &WideNumber) -> Result<(), AllocError>
 {
     match wide {
         WideNumber::Crowd { entries } => put_crowd(text, entries),
+        WideNumber::Spread { exponent, entries } => put_spread(text, *exponent, entries),
     }
 }
 
@@ -87,6 +91,14 @@ fn put_crowd(text: &mut String, entries: &[i64]) -> Result<(), AllocError>
     ensures { OnOk result (string_bytes text.new ≡ string_bytes text.old ++ line_text (crowd_line entries.now)) }
 {
     write!(text, "refused wide crowd class")?;
+    end_with_numbers(text, entries)?;
+    Ok(())
+}
+
+fn put_spread(text: &mut String, exponent: i64, entries: &[i64]) -> Result<(), AllocError>
+    ensures { OnOk result (string_bytes text.new ≡ string_bytes text.old ++ line_text (spread_line exponent entries.now)) }
+{
+    write!(text, "refused wide spread {exponent} class")?;
     end_with_numbers(text, entries)?;
     Ok(())
 }
@@ -139,6 +151,16 @@ mod tests {
         assert_eq!(rt;
             wide.as_slice(),
             b"refused wide crowd class -2 2 0\n".as_slice()
+        );
+        let entries = Vec::from_slice(rt.alloc(), [-2, 2, 0].as_slice())?;
+        let spread = WideNumber::Spread {
+            exponent: -7,
+            entries,
+        };
+        let wide = print_refusal(rt.alloc(), &Refusal::Wide(spread))?;
+        assert_eq!(rt;
+            wide.as_slice(),
+            b"refused wide spread -7 class -2 2 0\n".as_slice()
         );
         Ok(())
     }

@@ -13,7 +13,10 @@ use std::marker::Model;
 /// Which series is printed.
 #[derive(Clone, Copy, Debug, PartialEq, Eq)]
 pub enum Kind {
+    /// The series of all configurations.
     Full,
+    /// The full series divided by that of class zero.
+    Reduced,
 }
 
 impl Kind {
@@ -22,6 +25,7 @@ impl Kind {
     {
         match self {
             Kind::Full => "full",
+            Kind::Reduced => "reduced",
         }
     }
 }

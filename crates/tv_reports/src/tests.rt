@@ -1,0 +1,139 @@
+//! The check of local P^2, as it is known from outside, and a made-up family in each kind.
+
+use crate::check::print_check;
+use crate::laws::sections_tell_series;
+use crate::series::print_series;
+use std::alloc::Global;
+use std::test::Fail;
+use tv_degrees::grade::grade;
+use tv_graded::Graded;
+use tv_lattice::class::Class;
+use tv_lattice::point::Point;
+use tv_laurent::Series;
+use tv_ring::Whole;
+use tv_spec_plane::records::Triple;
+use tv_text::series::Kind;
+use tv_triangulation::triangulate::triangulate;
+use tv_web::web::build_web;
+
+const LOCAL_P2: &str = "report check
+points 4
+triangles 3
+compact 3
+open 3
+edge 0 1 opposite 2 3 normal -3 1 degree 1
+edge 0 2 opposite 1 3 normal -3 1 degree 1
+edge 0 3 opposite 1 2 normal -3 1 degree 1
+open 1 2 corner 0
+open 1 3 corner 2
+open 2 3 corner 1
+end
+";
+
+#[test]
+fn prints_local_p2(rt: HostRuntime) -> Result<(), Fail> {
+    let mut points = Vec::new(rt.alloc());
+    for (x, y) in [(0, 0), (1, 0), (0, 1), (-1, -1)] {
+        points.push(Point::new(x, y).ok_or("a point")?)?;
+    }
+    let mut triangles = Vec::new(rt.alloc());
+    for (a, b, c) in [(0, 1, 2), (0, 2, 3), (0, 3, 1)] {
+        triangles.push(Triple { a, b, c })?;
+    }
+    assert!(rt; points.len() == 4 && triangles.len() == 3);
+    let triangulation = triangulate(rt.alloc(), &points, &triangles)?;
+    let web = build_web(rt.alloc(), triangulation)?;
+    let heights = [0, 1, 0, 0].to_vec(rt.alloc())?;
+    assert!(rt; web.points().len() == 4);
+    let graded = grade(rt.alloc(), web, heights)?;
+    let report = print_check(rt.alloc(), &graded)?;
+    assert_eq!(rt; report.as_slice(), LOCAL_P2.as_bytes());
+    Ok(())
+}
+
+const MADE_UP: &str = "heights 1 0
+degree 2
+upto 3
+class 0 0 0
+term 0 1
+term 2 -4
+class 1 1 -2
+term -1 5
+class 2 2 0
+end
+";
+
+// The vector of two small entries.
+fn class_of(alloc: Global, first: i64, second: i64) -> Result<Class, Fail> {
+    if -9 <= first && first <= 9 && -9 <= second && second <= 9 {
+        let mut entries = Vec::new(alloc);
+        entries.push(first)?;
+        entries.push(second)?;
+        Ok(Class::new(entries))
+    } else {
+        Err("small".into())
+    }
+}
+
+// The series of these coefficients, the first at `low`.
+fn series_of(low: i64, coefficients: Vec<Whole>) -> Result<Series<Whole>, Fail> {
+    if -99 <= low && low <= 99 && coefficients.len() <= 99 {
+        Ok(Series::new(low, coefficients))
+    } else {
+        Err("small".into())
+    }
+}
+
+// Adds a class and its series, where they are those of the family.
+fn add(
+    alloc: Global,
+    family: &mut Graded<Whole>,
+    class: Class,
+    low: i64,
+    values: &[i128],
+) -> Result<(), Fail> {
+    let mut coefficients = Vec::new(alloc);
+    for value in values {
+        coefficients.push(Whole::new(*value).ok_or("within")?)?;
+    }
+    let series = series_of(low, coefficients)?;
+    if class.entries().len() != family.heights().len() || series.upto() < family.upto() {
+        return Err("in the family".into());
+    }
+    let degree = class.degree(family.heights());
+    if degree < 0 || family.top() < degree {
+        return Err("in the family".into());
+    }
+    family.add_into(class, series).map_err(|_| "a sum".into())
+}
+
+// The family of heights 1 and 0 in degree 2 through 3: 1 - 4 q^2 in class zero, 5 / q in class 1 -2, nothing in class 2 0.
+fn made_up(alloc: Global) -> Result<Graded<Whole>, Fail> {
+    let mut heights = Vec::new(alloc);
+    heights.push(1)?;
+    heights.push(0)?;
+    let mut family = Graded::<Whole>::new(alloc, heights, 2, 3);
+    let last = class_of(alloc, 2, 0)?;
+    add(alloc, &mut family, last, 3, &[0, 0, 0])?;
+    let first = class_of(alloc, 0, 0)?;
+    add(alloc, &mut family, first, 0, &[1, 0, -4, 0, 8])?;
+    let second = class_of(alloc, 1, -2)?;
+    add(alloc, &mut family, second, -1, &[5, 0, 0, 0, 0])?;
+    Ok(family)
+}
+
+#[test]
+fn prints_a_family(rt: HostRuntime) -> Result<(), Fail> {
+    sections_tell_series();
+    let family = made_up(rt.alloc())?;
+    for (kind, title) in [
+        (Kind::Full, "report series full\n"),
+        (Kind::Reduced, "report series reduced\n"),
+    ] {
+        let report = print_series(rt.alloc(), kind, &family)?;
+        let mut text = String::from_str(rt.alloc(), title)?;
+        text.push_str(MADE_UP)?;
+        assert_eq!(rt; report.as_slice(), text.as_bytes());
+    }
+    Ok(())
+}

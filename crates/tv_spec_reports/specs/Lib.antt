@@ -1,0 +1,5 @@
+pub mod Integers
+pub mod Boxes
+pub mod Summaries
+pub mod Verdicts
+pub mod Grammar

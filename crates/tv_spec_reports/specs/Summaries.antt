@@ -1,0 +1,46 @@
+-- The summary of a full series on a grid.
+--
+-- Summary        == the grid's number, degree and order; how many classes and terms the report of the full series has; the
+--                   coefficient of class zero at the order; and the sum of all coefficients modulo 1000000007
+-- terms_in ss, sum_in ss == the number of terms of the sections, and the sum of their coefficients
+-- is_summary_of  == a summary counts and sums these sections
+-- summary_lines, summary_text == its lines, its text
+use Rattle.std.specs.Prelude.{◌≡◌, ℕ, ◌+◌, ◌<◌, ℤ, pos, ◌+ℤ◌, ◌*ℤ◌, List, [], ◌∷◌, length, codes}
+use Rattle.tv_spec_text.specs.Lines.{Line, text_of, spelled}
+use Rattle.tv_spec_text.specs.Reports.{Term, Section}
+
+pub record Summary : Type 0 where
+  pub grid : ℕ
+  pub degree : ℕ
+  pub upto : ℤ
+  pub classes : ℕ
+  pub terms : ℕ
+  pub zero : ℤ
+  pub sum : ℕ
+
+abbrev pub terms_in : List Section → ℕ
+terms_in [] = 0
+terms_in (s ∷ ss) = length s.terms + terms_in ss
+
+abbrev pub sum_of_terms : List Term → ℤ
+sum_of_terms [] = pos 0
+sum_of_terms (t ∷ ts) = t.coefficient +ℤ sum_of_terms ts
+
+abbrev pub sum_in : List Section → ℤ
+sum_in [] = pos 0
+sum_in (s ∷ ss) = sum_of_terms s.terms +ℤ sum_in ss
+
+-- the least remainder
+pub record IsSummary (ss : List Section) (s : Summary) : Type 0 where
+  pub classes : s.classes ≡ length ss
+  pub terms : s.terms ≡ terms_in ss
+  pub least : s.sum < 1000000007
+  pub multiple : ℤ
+  pub sum : sum_in ss ≡ pos s.sum +ℤ (multiple *ℤ pos 1000000007)
+
+abbrev pub summary_lines : Summary → List Line
+summary_lines s =
+    (codes "report" ∷ codes "summary" ∷ []) ∷ (codes "grid" ∷ spelled (pos s.grid) ∷ []) ∷ (codes "degree" ∷ spelled (pos s.degree) ∷ []) ∷ (codes "upto" ∷ spelled s.upto ∷ []) ∷ (codes "classes" ∷ spelled (pos s.classes) ∷ []) ∷ (codes "terms" ∷ spelled (pos s.terms) ∷ []) ∷ (codes "zero" ∷ spelled s.zero ∷ []) ∷ (codes "sum" ∷ spelled (pos s.sum) ∷ []) ∷ (codes "end" ∷ []) ∷ []
+
+abbrev pub summary_text : Summary → List ℕ
+summary_text s = text_of (summary_lines s)
