@@ -1,8 +1,9 @@
 pub mod WordPlaces
-pub mod Orders
-pub mod TermLists
-pub mod CornerTerms
-pub mod CornerReport
+pub mod Between
+pub mod Told
+pub mod FullReport
+pub mod ReducedReport
+pub mod WideNumbers
 pub mod RejectedReply
 pub mod Completeness
 pub mod Sound

@@ -1,53 +1,73 @@
--- Which bytes the program takes as a file.
+-- Which bytes the program takes as a file, and the web that they give.
 --
 -- is_json bytes       == the first byte is `{`, a space, a tab, LF or CR
--- IsAccepted bytes w  == no JSON, and a text that spells w within the limits; the points are distinct and not all on one
---                        line, the triangles are unimodular and tile the hull, and there are as many heights as points
--- HasMesh w           == the points and triangles pass their checks
--- IsSound w           == what the checks of triangles and heights leave of a web: with one triangle it is one corner
+-- turned_web file     == the web with the file's points and heights, and its triangles turned counter-clockwise
+-- IsAccepted bytes w  == no JSON, and a text that spells a file within the limits; the points are distinct and not all on
+--                        one line, the triangles are unimodular and tile the hull, there are as many heights as points,
+--                        w is the file with its triangles turned, and every compact edge of w has a degree of at least 1
+-- IsSound file w      == what the checks from the points on leave of a file and its web
 -- HasOtherHeights w k == the triangles tile, and there are k heights, not one for each point
+-- HasLowEdge w a b d  == the triangles tile, there is a height for each point, and the first compact edge of the turned
+--                        web whose degree is at most 0 is that from a to b, of degree d
 -- IsUnsoundBy w f     == f is the first of these checks that fails
 -- IsUnsound w e       == e is the first of these checks that fails, or want of memory
-use Rattle.std.specs.Prelude.{◌≡◌, ◌≢◌, ℕ, List, [], ◌∷◌, length, Bool, false, ◌||◌, nat_eq, ⊤}
+-- IsLowEdge w e       == e names the first compact edge of the web whose degree is at most 0, or is want of memory
+use Rattle.std.specs.Prelude.{◌≡◌, ◌≢◌, ℕ, ℤ, List, [], ◌∷◌, length, Bool, false, ◌||◌, nat_eq, ⊤}
 use Rattle.tv_spec_plane.specs.Web.{Web}
 use Rattle.tv_text.specs.Faults.{IsText}
 use Rattle.tv_lattice.specs.declared.fault.FileFault.{FileFault}
-use Rattle.tv_lattice.specs.declared.fault.FileFault.TheVariants.{HeightCount}
+use Rattle.tv_lattice.specs.declared.fault.FileFault.TheVariants.{HeightCount, Degree}
 use Rattle.tv_lattice.specs.declared.fault.InputError.{InputError}
 use Rattle.tv_lattice.specs.declared.fault.InputError.TheVariants.{Fault, Memory}
-use Rattle.tv_spec_boxes.specs.OneCorner.{IsOneCorner}
-use Rattle.tv_triangulation.specs.Mesh.{Mesh}
-use Rattle.tv_triangulation.specs.Faults.{IsFirstFault, IsAccepted as PassesChecks}
+use Rattle.tv_triangulation.specs.Turned.{turned}
+use Rattle.tv_triangulation.specs.Faults.{IsFirstFault}
 use Rattle.tv_acceptance.specs.Triangulated.{IsTiled}
+use Rattle.tv_degrees.specs.Grades.{IsGraded, IsFirstLow}
 
 abbrev pub is_json : List ℕ → Bool
 is_json [] = false
 is_json (b ∷ bytes) = nat_eq b 123 || (nat_eq b 32 || (nat_eq b 9 || (nat_eq b 10 || nat_eq b 13)))
 
+abbrev pub turned_web : Web → Web
+turned_web file = record file { triangles = turned file.points file.triangles }
+
 pub record IsAccepted (bytes : List ℕ) (w : Web) : Type 0 where
+  pub file : Web
   pub not_json : is_json bytes ≡ false
-  pub text : IsText bytes w
-  pub tiled : IsTiled w.points w.triangles
-  pub heights : length w.heights ≡ length w.points
+  pub text : IsText bytes file
+  pub tiled : IsTiled file.points file.triangles
+  pub heights : length file.heights ≡ length file.points
+  pub turned : w ≡ turned_web file
+  pub graded : IsGraded w
 
-abbrev pub HasMesh : Web → Type 0
-HasMesh w = (m : Mesh) × PassesChecks w.points w.triangles m
+pub record IsSound (file w : Web) : Type 0 where
+  pub tiled : IsTiled file.points file.triangles
+  pub heights : length file.heights ≡ length file.points
+  pub turned : w ≡ turned_web file
+  pub graded : IsGraded w
 
-pub record IsSound (w : Web) : Type 0 where
-  pub tiled : IsTiled w.points w.triangles
-  pub heights : length w.heights ≡ length w.points
-  pub corner : length w.triangles ≡ 1 → IsOneCorner w
-
--- the count of heights is looked at last
 pub record HasOtherHeights (w : Web) (k : ℕ) : Type 0 where
   pub tiled : IsTiled w.points w.triangles
   pub count : k ≡ length w.heights
   pub other : k ≢ length w.points
 
+-- degrees are looked at last
+pub record HasLowEdge (w : Web) (a b : ℕ) (d : ℤ) : Type 0 where
+  pub tiled : IsTiled w.points w.triangles
+  pub heights : length w.heights ≡ length w.points
+  pub number : ℕ
+  pub low : IsFirstLow (turned_web w) number a b d
+
 abbrev pub IsUnsoundBy : Web → FileFault → Type 0
 IsUnsoundBy w (HeightCount k) = HasOtherHeights w k
+IsUnsoundBy w (Degree a b d) = HasLowEdge w a b d
 IsUnsoundBy w f = IsFirstFault w.points w.triangles f
 
 abbrev pub IsUnsound : Web → InputError → Type 0
 IsUnsound w (Fault f) = IsUnsoundBy w f
 IsUnsound w Memory = ⊤
+
+abbrev pub IsLowEdge : Web → InputError → Type 0
+IsLowEdge w (Fault (Degree a b d)) = (number : ℕ) × IsFirstLow w number a b d
+IsLowEdge w (Fault f) = ⊥
+IsLowEdge w Memory = ⊤

@@ -2,28 +2,25 @@
 --
 -- Inputs, Outputs         == the bytes that a source, or a sink, tells before and after, and its counts of faults
 -- memory_text, read_text  == the texts of want of memory and of a failed read
--- IsWide w upto           == the crowd of the zero class in the series through upto is beyond 2^127 - 1
--- wide_crowd_line         == the line that names it
 -- Gave io bytes           == these bytes were taken from the source, and where it tells its bytes, none are left
 -- Deserves ws io status text == the status and its text are deserved by these words and this source
 -- Told old new text rose status result == a beginning of the text was appended to the sink: all of it, with the status, or
 --                             less, with WriteFault and a count of faults that rose
 -- Reads ws io             == what was taken from the source, whatever is answered
 -- Answers                 == some status and text are deserved, and were told
-use Rattle.std.specs.Prelude.{◌≡◌, ℕ, ◌-◌, ◌^◌, ◌<◌, ◌≤◌, ◌⊎◌, ℤ, pos, List, [], ◌∷◌, length, take, map, Option, codes}
+use Rattle.std.specs.Prelude.{◌≡◌, ℕ, ◌<◌, ◌≤◌, ◌⊎◌, pos, List, [], ◌∷◌, length, take, Option, codes}
 use Rattle.std.specs.Io.KnownBytes.{Appends, Consumes, IsAtEnd}
 use Rattle.tv_spec_plane.specs.Web.{Web}
 use Rattle.tv_spec_text.specs.Lines.{Word, Line, line_text, spelled}
 use Rattle.tv_spec_text.specs.Places.{IsPlace}
-use Rattle.tv_spec_boxes.specs.Assignments.{no_legs, zeros}
-use Rattle.tv_spec_boxes.specs.Numbers.{crowd}
+use Rattle.tv_lattice.specs.declared.fault.FileFault.{FileFault}
+use Rattle.tv_text.specs.Refusals.{fault_line}
 use Rattle.tv_outside.specs.Faults.{Rose}
-use Rattle.tv_top.specs.Commands.{IsSeries, IsCommand}
+use Rattle.tv_top.specs.Commands.{Asks, IsCommand}
 use Rattle.tv_top.specs.Acceptance.{IsAccepted}
-use Rattle.tv_top.specs.Rejections.{IsRejected}
-use Rattle.tv_top.specs.RejectionLines.{rejection_line}
-use Rattle.tv_top.specs.SeriesReport.{IsFullReport}
-use Rattle.tv_top.specs.declared.acceptance.Rejection.{Rejection}
+use Rattle.tv_top.specs.Rejections.{FaultOf}
+use Rattle.tv_top.specs.Reports.{IsReport, IsWide}
+use Rattle.tv_top.specs.declared.command.Command.{Command}
 use Rattle.tv_top.specs.declared.status.Status.{Status}
 use Rattle.tv_top.specs.declared.status.Status.TheVariants.{Done, Words, File, Wide, Differs, Memory, ReadFault, WriteFault}
 
@@ -44,16 +41,15 @@ pub record Gave (io : Inputs) (bytes : List ℕ) : Type 0 where
   pub ended : IsAtEnd io.after
   pub kept : io.faults_after ≡ io.faults_before
 
--- the report of the series of an accepted file of one triangle
+-- the command's report of an accepted file
 pub record DeservesDone (ws : List Word) (io : Inputs) (text : List ℕ) : Type 0 where
-  pub upto : ℤ
+  pub command : Command
   pub bytes : List ℕ
   pub web : Web
-  pub asked : IsSeries ws upto
+  pub asked : Asks ws command
   pub read : Gave io bytes
   pub accepted : IsAccepted bytes web
-  pub single : length web.triangles ≡ 1
-  pub report : IsFullReport web 0 upto text
+  pub report : IsReport command web text
 
 -- the place at which the words leave every word list
 pub record DeservesWords (ws : List Word) (io : Inputs) (text : List ℕ) : Type 0 where
@@ -63,32 +59,27 @@ pub record DeservesWords (ws : List Word) (io : Inputs) (text : List ℕ) : Type
 
 -- the first check that the file fails
 pub record DeservesFile (ws : List Word) (io : Inputs) (text : List ℕ) : Type 0 where
+  pub command : Command
   pub bytes : List ℕ
-  pub rejection : Rejection
-  pub asked : IsCommand ws
+  pub fault : FileFault
+  pub asked : Asks ws command
   pub taken : Consumes io.before io.after bytes
   pub ended : (length bytes ≡ 65537) ⊎ ((length bytes ≤ 65536) × IsAtEnd io.after)
   pub kept : io.faults_after ≡ io.faults_before
-  pub rejected : IsRejected bytes rejection
-  pub line : text ≡ line_text (rejection_line rejection)
+  pub refused : FaultOf bytes fault
+  pub line : text ≡ line_text (fault_line fault)
 
-abbrev pub IsWide : Web → ℤ → Type 0
-IsWide w upto = 2 ^ 127 - 1 < crowd w (no_legs w) 0 upto (zeros 3)
-
-abbrev pub wide_crowd_line : Line
-wide_crowd_line = codes "refused" ∷ codes "wide" ∷ codes "crowd" ∷ codes "class" ∷ map spelled (zeros 3)
-
--- the crowd of the zero class is beyond 2^127 - 1
+-- a number that the command needs is beyond 2^127 - 1
 pub record DeservesWide (ws : List Word) (io : Inputs) (text : List ℕ) : Type 0 where
-  pub upto : ℤ
+  pub command : Command
   pub bytes : List ℕ
   pub web : Web
-  pub asked : IsSeries ws upto
+  pub refusal : Line
+  pub asked : Asks ws command
   pub read : Gave io bytes
   pub accepted : IsAccepted bytes web
-  pub single : length web.triangles ≡ 1
-  pub wide : IsWide web upto
-  pub line : text ≡ line_text wide_crowd_line
+  pub wide : IsWide command web refusal
+  pub line : text ≡ line_text refusal
 
 pub record DeservesRead (ws : List Word) (io : Inputs) (text : List ℕ) : Type 0 where
   pub asked : IsCommand ws

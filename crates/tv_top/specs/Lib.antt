@@ -1,9 +1,8 @@
 pub mod Commands
 pub mod Acceptance
-pub mod Rejections
-pub mod RejectionLines
 pub mod SeriesReport
-pub mod CornerTerms
+pub mod Reports
+pub mod Rejections
 pub mod Status
 pub mod Answers
 pub mod Replies

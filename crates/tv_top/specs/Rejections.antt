@@ -1,20 +1,17 @@
 -- Why a file is refused.
 --
--- IsWebFault bytes f  == f is the first check of points, triangles and heights that fails, of a text within the limits
+-- IsWebFault bytes f  == f is the first check of points, triangles, heights and degrees that fails, of a text within the
+--                        limits
 -- FaultOf bytes f     == f is the first check that the bytes fail: too long, JSON, the text and its limits, the web
--- HasOtherTriangles bytes == the file is accepted and has not exactly one triangle
--- IsRejected bytes r  == the same, or the file is accepted and has not exactly one triangle
--- IsRefused bytes e   == e is such a refusal by a check, or want of memory
-use Rattle.std.specs.Prelude.{◌≡◌, ◌≢◌, ℕ, ◌<◌, ◌≤◌, List, length, true, false, ⊤}
+-- IsRefused bytes e   == e is the first check that fails, or want of memory
+use Rattle.std.specs.Prelude.{◌≡◌, ℕ, ◌<◌, ◌≤◌, List, length, true, false, ⊤}
 use Rattle.tv_spec_plane.specs.Web.{Web}
 use Rattle.tv_lattice.specs.declared.fault.FileFault.{FileFault}
 use Rattle.tv_lattice.specs.declared.fault.FileFault.TheVariants.{TooLong, Json, Line, TooMany}
 use Rattle.tv_lattice.specs.declared.fault.InputError.{InputError}
 use Rattle.tv_lattice.specs.declared.fault.InputError.TheVariants.{Fault as Refusal, Memory}
 use Rattle.tv_text.specs.Faults.{IsText, IsTextFault}
-use Rattle.tv_top.specs.Acceptance.{is_json, IsAccepted, IsUnsoundBy}
-use Rattle.tv_top.specs.declared.acceptance.Rejection.{Rejection}
-use Rattle.tv_top.specs.declared.acceptance.Rejection.TheVariants.{Fault, NotOneCorner}
+use Rattle.tv_top.specs.Acceptance.{is_json, IsUnsoundBy}
 
 pub record IsWebFault (bytes : List ℕ) (f : FileFault) : Type 0 where
   pub web : Web
@@ -28,15 +25,6 @@ FaultOf bytes Json = (length bytes ≤ 65536) × (is_json bytes ≡ true)
 FaultOf bytes (Line n) = (is_json bytes ≡ false) × IsTextFault bytes (Refusal (Line n))
 FaultOf bytes (TooMany e) = (is_json bytes ≡ false) × IsTextFault bytes (Refusal (TooMany e))
 FaultOf bytes f = IsWebFault bytes f
-
-pub record HasOtherTriangles (bytes : List ℕ) : Type 0 where
-  pub web : Web
-  pub accepted : IsAccepted bytes web
-  pub other : length web.triangles ≢ 1
-
-abbrev pub IsRejected : List ℕ → Rejection → Type 0
-IsRejected bytes (Fault f) = FaultOf bytes f
-IsRejected bytes NotOneCorner = HasOtherTriangles bytes
 
 abbrev pub IsRefused : List ℕ → InputError → Type 0
 IsRefused bytes (Refusal f) = FaultOf bytes f

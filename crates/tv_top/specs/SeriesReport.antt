@@ -1,31 +1,62 @@
--- The report of a series: every class of degree at most D that some assignment has, in order, and every coefficient
--- other than 0 through N, each the signed count of box configurations.
+-- The reports of series: every class of degree at most D that some assignment has, in order, and every coefficient other
+-- than 0 through N.
 --
 -- full_coefficient w v n     == the signed count of the box configurations of class v and Euler characteristic n
--- IsSmallTerm t              == the coefficient is at most 2^127 - 1 in absolute value
--- IsSection w upto s         == the class with its degree, and its terms through upto
--- IsFullReport w d upto text == text is the report of the full series of w in degree at most d through upto
-use Rattle.std.specs.Prelude.{◌≡◌, ℕ, ℤ, pos, List, map, codes, ◌-◌, ◌^◌, ◌≤◌, unsigned_abs}
+-- IsFullSection w upto s     == the class with its degree, and the terms through upto of its full series
+-- IsReducedSection w upto s  == the class with its degree, and the terms through upto of its reduced series: that whose
+--                               product with the full series of class zero is the full series of the class
+-- IsReportOf P title w d upto text == text is the report with that title and a section for each class of w in degree at most
+--                               d, of which P holds
+-- IsFullReport w d upto text, IsReducedReport w d upto text == text is the report of that series, through upto
+-- IsCrowded w d upto v       == some assignment of degree at most d has the class v, and its crowd in the full series is
+--                               beyond 2^127 - 1
+-- IsSpreadOut w d upto v m   == some assignment of degree at most d has the class v, and the sizes that meet at m in the
+--                               division of its series add up to more than 2^127 - 1
+use Rattle.std.specs.Prelude.{◌≡◌, ℕ, ℤ, pos, List, map, codes, ◌-◌, ◌^◌, ◌<◌}
 use Rattle.std.specs.List.{AllByRecursion}
 use Rattle.tv_spec_plane.specs.Web.{Web, degree_of}
 use Rattle.tv_spec_boxes.specs.Assignments.{no_legs}
 use Rattle.tv_spec_boxes.specs.Configurations.{signed_count}
-use Rattle.tv_spec_boxes.specs.Classes.{AreClasses}
-use Rattle.tv_spec_text.specs.Reports.{Term, Section, AreTerms, series_text}
+use Rattle.tv_spec_boxes.specs.Classes.{IsClass, AreClasses}
+use Rattle.tv_spec_boxes.specs.Numbers.{crowd}
+use Rattle.tv_spec_series.specs.Reduced.{IsReduced, IsSpread}
+use Rattle.tv_spec_text.specs.Lines.{Word}
+use Rattle.tv_spec_text.specs.Reports.{Section, AreTerms, series_text}
+use Rattle.tv_reports.specs.Sections.{IsSmall}
 
 abbrev pub full_coefficient : Web → List ℤ → ℤ → ℤ
 full_coefficient w v n = signed_count w (no_legs w) v n
 
-abbrev pub IsSmallTerm : Term → Type 0
-IsSmallTerm t = unsigned_abs t.coefficient ≤ 2 ^ 127 - 1
-
-pub record IsSection (w : Web) (upto : ℤ) (s : Section) : Type 0 where
+pub record IsFullSection (w : Web) (upto : ℤ) (s : Section) : Type 0 where
   pub degree : s.degree ≡ degree_of w.heights s.entries
   pub terms : AreTerms (full_coefficient w s.entries) upto s.terms
-  pub small : AllByRecursion IsSmallTerm s.terms
+  pub small : IsSmall s
 
-pub record IsFullReport (w : Web) (d : ℕ) (upto : ℤ) (text : List ℕ) : Type 0 where
+pub record IsReducedSection (w : Web) (upto : ℤ) (s : Section) : Type 0 where
+  pub degree : s.degree ≡ degree_of w.heights s.entries
+  pub series : ℤ → ℤ
+  pub reduced : IsReduced w (no_legs w) upto s.entries series
+  pub terms : AreTerms series upto s.terms
+  pub small : IsSmall s
+
+pub record IsReportOf (P : Section → Type 0) (title : Word) (w : Web) (d : ℕ) (upto : ℤ) (text : List ℕ) : Type 0 where
   pub sections : List Section
   pub classes : AreClasses w d (map (λ (s : Section). s.entries) sections)
-  pub each : AllByRecursion (IsSection w upto) sections
-  pub printed : text ≡ series_text (codes "full") w.heights (pos d) upto sections
+  pub each : AllByRecursion P sections
+  pub printed : text ≡ series_text title w.heights (pos d) upto sections
+
+abbrev pub IsFullReport : Web → ℕ → ℤ → List ℕ → Type 0
+IsFullReport w d upto text = IsReportOf (IsFullSection w upto) (codes "full") w d upto text
+
+abbrev pub IsReducedReport : Web → ℕ → ℤ → List ℕ → Type 0
+IsReducedReport w d upto text = IsReportOf (IsReducedSection w upto) (codes "reduced") w d upto text
+
+pub record IsCrowded (w : Web) (d : ℕ) (upto : ℤ) (v : List ℤ) : Type 0 where
+  pub class : IsClass w d v
+  pub beyond : 2 ^ 127 - 1 < crowd w (no_legs w) d upto v
+
+pub record IsSpreadOut (w : Web) (d : ℕ) (upto : ℤ) (v : List ℤ) (m : ℤ) : Type 0 where
+  pub class : IsClass w d v
+  pub number : ℕ
+  pub spread : IsSpread w (no_legs w) upto v m number
+  pub beyond : 2 ^ 127 - 1 < number

@@ -1,31 +1,32 @@
-//! Bytes as a file that the program takes. What is computed from the file is not looked at here.
+//! Bytes as a file that the program takes, and the web of that file. What is computed of the web is not looked at here.
 
-ghost use Rattle.std.specs.Prelude.{◌≡◌, MatchResult};
-ghost use Rattle.tv_top.specs.Acceptance.{is_json, HasMesh, IsAccepted, IsSound, IsUnsound};
+ghost use Rattle.std.specs.Prelude.{◌≡◌, length, vec_len, MatchResult};
+ghost use Rattle.std.specs.List.{AllByRecursion};
+ghost use Rattle.tv_lattice.specs.Limits.{IsHeight};
+ghost use Rattle.tv_triangulation.specs.Faults.{IsAccepted as PassesChecks};
+ghost use Rattle.tv_web.specs.Built.{bare_web};
+ghost use Rattle.tv_degrees.specs.Edges.{with_heights};
+ghost use Rattle.tv_degrees.specs.Grades.{IsGraded};
+ghost use Rattle.tv_top.specs.Acceptance.{is_json, IsAccepted, IsSound, IsUnsound, IsLowEdge};
 ghost use Rattle.tv_top.specs.Rejections.{IsRefused};
 
 use std::alloc::Global;
+use tv_degrees::fault::DegreeFault;
+use tv_degrees::grade::{GradedWeb, grade};
 use tv_lattice::fault::{FileFault, InputError};
 use tv_lattice::file::FileData;
 use tv_text::file::read_file;
+use tv_triangulation::Triangulation;
 use tv_triangulation::triangulate::triangulate;
-
-/// Why a file is refused.
-#[derive(Clone, Copy, Debug, PartialEq, Eq)]
-pub enum Rejection {
-    /// A check fails.
-    Fault(FileFault),
-    /// The file has not exactly one triangle.
-    NotOneCorner,
-}
+use tv_web::web::build_web;
 
 /// The greatest number of bytes of a file.
 pub const MAX_BYTES: usize = 65_536;
 
-/// The file that the bytes spell, where it is a triangulation with a height for each point. The checks come in the
-/// order: too long, JSON, the grammar, the limits, the points and triangles, the number of heights.
-pub fn accept(alloc: Global, bytes: &[u8]) -> Result<FileData, InputError>
-    ensures { MatchResult result (λ w. IsAccepted bytes.now w × IsSound w) (IsRefused bytes.now) }
+/// The web of the file that the bytes spell, with its triangles turned counter-clockwise. The checks come in the order:
+/// too long, JSON, the grammar, the limits, the points and triangles, the number of heights, the degrees.
+pub fn accept(alloc: Global, bytes: &[u8]) -> Result<GradedWeb, InputError>
+    ensures { MatchResult result (IsAccepted bytes.now) (IsRefused bytes.now) }
 {
     if bytes.len() > MAX_BYTES {
         return Err(InputError::Fault(FileFault::TooLong));
@@ -34,7 +35,7 @@ pub fn accept(alloc: Global, bytes: &[u8]) -> Result<FileData, InputError>
         return Err(InputError::Fault(FileFault::Json));
     }
     match read_file(alloc, bytes) {
-        Ok(file) => sound(alloc, file),
+        Ok(file) => web_of(alloc, file),
         Err(error) => Err(error),
     }
 }
@@ -51,21 +52,44 @@ fn is_json(bytes: &[u8]) -> bool
     }
 }
 
-fn sound(alloc: Global, file: FileData) -> Result<FileData, InputError>
-    ensures { MatchResult result (λ w. (w ≡ file) × IsSound file) (IsUnsound file) }
+fn web_of(alloc: Global, file: FileData) -> Result<GradedWeb, InputError>
+    ensures { MatchResult result (IsSound file) (IsUnsound file) }
 {
     match triangulate(alloc, &file.points, &file.triangles) {
-        Ok(_) => with_heights(file),
+        Ok(triangulation) => with_heights(alloc, file, triangulation),
         Err(error) => Err(error),
     }
 }
 
-fn with_heights(file: FileData) -> Result<FileData, InputError>
-    requires { HasMesh file }
-    ensures { MatchResult result (λ w. (w ≡ file) × IsSound file) (IsUnsound file) }
+fn with_heights(
+    alloc: Global,
+    file: FileData,
+    triangulation: Triangulation,
+) -> Result<GradedWeb, InputError>
+    requires { PassesChecks file.points file.triangles triangulation }
+    ensures { MatchResult result (IsSound file) (IsUnsound file) }
 {
     if file.heights.len() != file.points.len() {
         return Err(InputError::Fault(FileFault::HeightCount(file.heights.len() as u64)));
     }
-    Ok(file)
+    graded(alloc, triangulation, file.heights)
+}
+
+fn graded(
+    alloc: Global,
+    triangulation: Triangulation,
+    heights: Vec<i64>,
+) -> Result<GradedWeb, InputError>
+    requires one_each { vec_len heights ≡ length triangulation.points }
+    requires small { AllByRecursion IsHeight heights.items }
+    ensures { let web = with_heights (bare_web triangulation.points triangulation.triangles) heights.items in MatchResult result (λ w. (w ≡ web) × IsGraded w) (IsLowEdge web) }
+{
+    let web = build_web(alloc, triangulation)?;
+    match grade(alloc, web, heights) {
+        Ok(graded) => Ok(graded),
+        Err(DegreeFault::Degree { a, b, degree }) => Err(InputError::Fault(FileFault::Degree(
+            a, b, degree,
+        ))),
+        Err(DegreeFault::Memory) => Err(InputError::Memory),
+    }
 }

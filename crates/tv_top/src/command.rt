@@ -1,18 +1,21 @@
 //! The words of commands. Words that begin no command are refused at the first place where they leave every word list.
 
-ghost use Rattle.std.specs.Prelude.{◌≡◌, ◌≢◌, ◌∷◌, ℕ, ℤ, List, map, MatchResult, MatchOption, IsTrue, ◌↔◌, string_bytes};
-ghost use Rattle.tv_spec_text.specs.Lines.{spelled};
-ghost use Rattle.tv_spec_text.specs.Places.{IsPlace};
-ghost use Rattle.tv_top.specs.Commands.{IsOrder, IsSeries, IsCommand, Asks, IsWordsError};
+ghost use Rattle.std.specs.Prelude.{◌≡◌, ◌≢◌, ◌∷◌, ℕ, ℤ, pos, List, map, codes, MatchResult, MatchOption, IsTrue, ◌↔◌, string_bytes};
+ghost use Rattle.tv_spec_text.specs.Lines.{spelled, IsNumber};
+ghost use Rattle.tv_text.specs.Sections.{kind_word};
+ghost use Rattle.tv_top.specs.Commands.{IsBetween, IsDegree, Asks, IsWordsError};
 
 use thiserror::Error;
 use tv_text::number::number;
+use tv_text::series::Kind;
 
 /// What the words ask for.
 #[derive(Clone, Copy, Debug, PartialEq, Eq)]
 pub enum Command {
-    /// The full series in degrees through `degree`, with exponents through `upto`.
-    Series { degree: u32, upto: i64 },
+    /// The edges of the file's web.
+    Check,
+    /// The series of that kind in degrees through `degree` (0 to 24), with exponents through `upto` (-64 to 64).
+    Series { kind: Kind, degree: u32, upto: i64 },
 }
 
 /// Why words ask for nothing.
@@ -27,22 +30,55 @@ pub enum WordsError {
 pub fn parse_words(words: &[String]) -> Result<Command, WordsError>
     ensures { MatchResult result (Asks (map string_bytes words.now)) (IsWordsError (map string_bytes words.now)) }
 {
-    let Some(kind) = after_word(words, "series") else {
-        return Err(WordsError::At(0));
-    };
-    let Some(degree) = after_word(kind, "full") else {
+    match after_word(words, "check") {
+        Some(rest) => check(rest),
+        None => match after_word(words, "series") {
+            Some(rest) => series(rest),
+            None => Err(WordsError::At(0)),
+        },
+    }
+}
+
+// The command of the word `check` and what follows it.
+fn check(rest: &[String]) -> Result<Command, WordsError>
+    ensures { let words = codes "check" ∷ map string_bytes rest.now in MatchResult result (Asks words) (IsWordsError words) }
+{
+    if !rest.is_empty() {
+        return Err(WordsError::At(1));
+    }
+    Ok(Command::Check)
+}
+
+// The command of the word `series` and what follows it.
+fn series(rest: &[String]) -> Result<Command, WordsError>
+    ensures { let words = codes "series" ∷ map string_bytes rest.now in MatchResult result (Asks words) (IsWordsError words) }
+{
+    let Some((kind, degrees)) = after_kind(rest) else {
         return Err(WordsError::At(1));
     };
-    let Some(order) = after_word(degree, "0") else {
+    let Some((degree, orders)) = after_degree(degrees) else {
         return Err(WordsError::At(2));
     };
-    let Some((upto, rest)) = after_order(order) else {
+    let Some((upto, rest)) = after_number(orders, -64, 64) else {
         return Err(WordsError::At(3));
     };
     if !rest.is_empty() {
         return Err(WordsError::At(4));
     }
-    Ok(Command::Series { degree: 0, upto })
+    Ok(Command::Series { kind, degree, upto })
+}
+
+// The kind of series that the first word names, and what follows it.
+fn after_kind<'a>(words: &'a [String]) -> Option<(Kind, &'a [String])>
+    ensures { MatchOption result ((kind : Kind) (ws : List (List ℕ)) → map string_bytes words.now ≢ kind_word kind ∷ ws) (λ r. map string_bytes words.now ≡ kind_word r.0 ∷ map string_bytes r.1.now) }
+{
+    match after_word(words, "full") {
+        Some(rest) => Some((Kind::Full, rest)),
+        None => match after_word(words, "reduced") {
+            Some(rest) => Some((Kind::Reduced, rest)),
+            None => None,
+        },
+    }
 }
 
 // What follows the first word, where that is the text.
@@ -63,27 +99,41 @@ fn is_word(word: &String, text: &str) -> bool
     word.as_str() == text
 }
 
-// The order that the first word spells, and what follows it.
-fn after_order<'a>(words: &'a [String]) -> Option<(i64, &'a [String])>
-    ensures { MatchOption result ((z : ℤ) (ws : List (List ℕ)) → IsOrder z → map string_bytes words.now ≢ spelled z ∷ ws) (λ r. IsOrder r.0 × (map string_bytes words.now ≡ spelled r.0 ∷ map string_bytes r.1.now)) }
+// The degree that the first word spells, and what follows it.
+fn after_degree<'a>(words: &'a [String]) -> Option<(u32, &'a [String])>
+    ensures { MatchOption result ((d : ℕ) (ws : List (List ℕ)) → IsDegree d → map string_bytes words.now ≢ spelled (pos d) ∷ ws) (λ r. IsDegree r.0 × (map string_bytes words.now ≡ spelled (pos r.0) ∷ map string_bytes r.1.now)) }
 {
-    let (word, rest) = words.split_first()?;
-    match order(word.as_bytes()) {
-        Some(upto) => Some((upto, rest)),
+    match after_number(words, 0, 24) {
+        Some((degree, rest)) => Some((degree as u32, rest)),
         None => None,
     }
 }
 
-fn order(word: &[u8]) -> Option<i64>
-    ensures { MatchOption result ((z : ℤ) → IsOrder z → word.now ≢ spelled z) (λ z. IsOrder z × (word.now ≡ spelled z)) }
+// The number from `low` to `high` that the first word spells, and what follows it.
+fn after_number<'a>(words: &'a [String], low: i64, high: i64) -> Option<(i64, &'a [String])>
+    requires low { IsNumber low }
+    requires high { IsNumber high }
+    ensures { MatchOption result ((z : ℤ) (ws : List (List ℕ)) → IsBetween low high z → map string_bytes words.now ≢ spelled z ∷ ws) (λ r. IsBetween low high r.0 × (map string_bytes words.now ≡ spelled r.0 ∷ map string_bytes r.1.now)) }
+{
+    let (word, rest) = words.split_first()?;
+    match number_between(word.as_bytes(), low, high) {
+        Some(z) => Some((z, rest)),
+        None => None,
+    }
+}
+
+fn number_between(word: &[u8], low: i64, high: i64) -> Option<i64>
+    requires low { IsNumber low }
+    requires high { IsNumber high }
+    ensures { MatchOption result ((z : ℤ) → IsBetween low high z → word.now ≢ spelled z) (λ z. IsBetween low high z × (word.now ≡ spelled z)) }
 {
     let Some(z) = number(word) else {
         return None;
     };
-    if z < -64 {
+    if z < low {
         return None;
     }
-    if z > 64 {
+    if z > high {
         return None;
     }
     Some(z)

@@ -3,17 +3,18 @@
 #![tactic(auto)]
 
 mod acceptance;
+mod answer;
+mod check;
 mod command;
 mod reply;
-mod report;
 mod running;
+mod series;
 mod status;
 mod telling;
-mod terms;
 #[cfg(test)]
 mod tests;
 
-pub use acceptance::{MAX_BYTES, Rejection, accept};
+pub use acceptance::{MAX_BYTES, accept};
 pub use command::{Command, WordsError, parse_words};
 pub use running::run;
 pub use status::Status;

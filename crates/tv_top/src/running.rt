@@ -4,7 +4,8 @@ ghost use Rattle.std.specs.Prelude.{map, string_bytes};
 ghost use Rattle.tv_top.specs.Answers.{Answers};
 ghost use Rattle.tv_top.specs.Completeness.{Completes};
 
-use crate::reply::{Failure, reply};
+use crate::answer::Failure;
+use crate::reply::reply;
 use crate::status::Status;
 use crate::telling::tell;
 use std::alloc::Global;

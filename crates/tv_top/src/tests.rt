@@ -1,4 +1,4 @@
-//! Whole runs over memory: the report, refusals that read nothing, and faults of reads and writes in turn.
+//! Whole runs over memory: the reports, refusals that read nothing, and faults of reads and writes in turn.
 
 ghost use Rattle.std.specs.Prelude.{◌≤◌};
 
@@ -12,6 +12,15 @@ const ONE_CORNER: &[u8] =
 
 const REPORT: &[u8] =
     b"report series full\nheights 0 0 0\ndegree 0\nupto 4\nclass 0 0 0 0\nterm 0 1\nterm 1 -1\nterm 2 3\nterm 3 -6\nterm 4 13\nend\n";
+
+const CONIFOLD: &[u8] =
+    b"tv 1\npoint 0 0\npoint 1 0\npoint 1 1\npoint 0 1\ntriangle 0 1 2\ntriangle 0 2 3\nheights 0 1 0 0\nend\n";
+
+const CONIFOLD_CHECK: &[u8] =
+    b"report check\npoints 4\ntriangles 2\ncompact 1\nopen 4\nedge 0 2 opposite 1 3 normal -1 -1 degree 1\nopen 0 1 corner 0\nopen 0 3 corner 1\nopen 1 2 corner 0\nopen 2 3 corner 1\nend\n";
+
+const CONIFOLD_SERIES: &[u8] =
+    b"report series full\nheights 0 1 0 0\ndegree 1\nupto 4\nclass 0 0 0 0 0\nterm 0 1\nterm 1 -2\nterm 2 7\nterm 3 -18\nterm 4 47\nclass 1 -1 1 -1 1\nterm 1 1\nterm 2 -4\nterm 3 14\nterm 4 -42\nend\n";
 
 fn words(alloc: Global, texts: &[&str]) -> Result<Vec<String>, Fail> {
     let mut words = Vec::new(alloc);
@@ -75,12 +84,36 @@ fn a_failed_write_leaves_a_beginning(rt: HostRuntime) -> Result<(), Fail> {
 #[test]
 fn refused_words_read_nothing(rt: HostRuntime) -> Result<(), Fail> {
     let alloc = rt.alloc();
-    let words = words(alloc, &["series", "full", "1", "4"])?;
+    let words = words(alloc, &["series", "full", "25", "4"])?;
     let mut from = source(alloc, &[0])?;
     let mut to = sink(alloc, 10, &[])?;
     let status = run(alloc, &words, &mut from, &mut to);
     assert!(rt; status == Status::Words);
     assert!(rt; to.bytes() == b"refused words 2\n".as_slice());
     assert_eq!(rt; from.faults(), 0);
+    Ok(())
+}
+
+#[test]
+fn checks_the_resolved_conifold(rt: HostRuntime) -> Result<(), Fail> {
+    let alloc = rt.alloc();
+    let words = words(alloc, &["check"])?;
+    let mut from = MemSource::new(CONIFOLD.to_vec(alloc)?, 16, Vec::new(alloc));
+    let mut to = sink(alloc, 10, &[])?;
+    let status = run(alloc, &words, &mut from, &mut to);
+    assert!(rt; status == Status::Done);
+    assert!(rt; to.bytes() == CONIFOLD_CHECK);
+    Ok(())
+}
+
+#[test]
+fn prints_the_series_of_the_resolved_conifold(rt: HostRuntime) -> Result<(), Fail> {
+    let alloc = rt.alloc();
+    let words = words(alloc, &["series", "full", "1", "4"])?;
+    let mut from = MemSource::new(CONIFOLD.to_vec(alloc)?, 16, Vec::new(alloc));
+    let mut to = sink(alloc, 10, &[])?;
+    let status = run(alloc, &words, &mut from, &mut to);
+    assert!(rt; status == Status::Done);
+    assert!(rt; to.bytes() == CONIFOLD_SERIES);
     Ok(())
 }

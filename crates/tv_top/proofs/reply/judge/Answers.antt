@@ -1,6 +1,8 @@
-use Rattle.tv_top.specs.declared.acceptance.Rejection.TheVariants.{Fault}
-use Rattle.tv_top.proofs.RejectedReply.{judged_refusal}
+use Rattle.tv_top.proofs.RejectedReply.{judged_refusal, judged_accepted}
 use Rattle.tv_top.proofs.reply.judge.Goals as goal
 
 pub returns-in-Err-Fault : goal.returns-in-Err-Fault
-returns-in-Err-Fault c = judged_refusal _ c.args.upto (Fault c.in-Err-Fault.fault) _ (rw c.in-Err-Fault.field-0-is at c.in-Err-Fault.ensures) c.reject.ensures
+returns-in-Err-Fault c = judged_refusal c.args.command c.args.bytes.now c.in-Err-Fault.fault c.reject.result (rw c.in-Err-Fault.field-0-is at c.in-Err-Fault.ensures) (rw c.in-Err-Fault.field-0-is at c.reject.ensures)
+
+pub returns-in-Ok : goal.returns-in-Ok
+returns-in-Ok c = judged_accepted c.args.command c.args.bytes.now c.in-Ok.web c.carry_out.result c.in-Ok.ensures c.carry_out.ensures

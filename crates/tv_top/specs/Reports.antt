@@ -1,0 +1,41 @@
+-- What each command answers to an accepted web: one row for each command.
+--
+-- IsSeriesReport k w d n text == the text is the report of the series of that kind
+-- IsCrowdLine w d n line  == the line names a class that has too many configurations
+-- IsSpreadLine w d n line == the line names a class and an exponent at which the numbers that meet in its division are too
+--                            large
+-- IsSeriesWide k w d n line == a number that the series of that kind needs is beyond 2^127 - 1, and the line names it
+-- IsReport c w text == the text is the command's report of the web
+-- IsWide c w line   == a number that the command needs is beyond 2^127 - 1, and the line names it
+use Rattle.std.specs.Prelude.{◌≡◌, ◌⊎◌, ℕ, ℤ, List}
+use Rattle.tv_spec_plane.specs.Web.{Web}
+use Rattle.tv_spec_text.specs.Lines.{Line}
+use Rattle.tv_spec_text.specs.Checks.{check_text}
+use Rattle.tv_text.specs.declared.series.Kind.{Kind}
+use Rattle.tv_text.specs.declared.series.Kind.TheVariants.{Full, Reduced}
+use Rattle.tv_text.specs.Refusals.{crowd_line, spread_line}
+use Rattle.tv_top.specs.SeriesReport.{IsFullReport, IsReducedReport, IsCrowded, IsSpreadOut}
+use Rattle.tv_top.specs.declared.command.Command.{Command}
+use Rattle.tv_top.specs.declared.command.Command.TheVariants.{Check, Series}
+
+abbrev pub IsSeriesReport : Kind → Web → ℕ → ℤ → List ℕ → Type 0
+IsSeriesReport Full w degree upto text = IsFullReport w degree upto text
+IsSeriesReport Reduced w degree upto text = IsReducedReport w degree upto text
+
+abbrev pub IsCrowdLine : Web → ℕ → ℤ → Line → Type 0
+IsCrowdLine w degree upto line = (v : List ℤ) × IsCrowded w degree upto v × (line ≡ crowd_line v)
+
+abbrev pub IsSpreadLine : Web → ℕ → ℤ → Line → Type 0
+IsSpreadLine w d upto line = (v : List ℤ) × ((m : ℤ) × IsSpreadOut w d upto v m × (line ≡ spread_line m v))
+
+abbrev pub IsSeriesWide : Kind → Web → ℕ → ℤ → Line → Type 0
+IsSeriesWide Full w degree upto line = IsCrowdLine w degree upto line
+IsSeriesWide Reduced w degree upto line = IsCrowdLine w degree upto line ⊎ IsSpreadLine w degree upto line
+
+abbrev pub IsReport : Command → Web → List ℕ → Type 0
+IsReport Check w text = text ≡ check_text w
+IsReport (Series kind degree upto) w text = IsSeriesReport kind w degree upto text
+
+abbrev pub IsWide : Command → Web → Line → Type 0
+IsWide Check w line = ⊥
+IsWide (Series kind degree upto) w line = IsSeriesWide kind w degree upto line
