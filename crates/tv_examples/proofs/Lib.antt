@@ -1,1 +1,3 @@
 pub mod Squares
+pub mod Sides
+pub mod Diagonals

@@ -1,6 +1,5 @@
 -- Worked values of Katz's product and of the integers.
-use Rattle.std.specs.Prelude.{◌≡◌, ℤ, pos, negsuc, List, [], ◌∷◌, map, refl, ◌≢◌}
-use Rattle.tv_ring.specs.Whole.{wholes}
+use Rattle.std.specs.Prelude.{◌≡◌, ℤ, pos, negsuc, List, [], ◌∷◌, map, refl}
 use Rattle.tv_ring.specs.Sums.{at}
 use Rattle.tv_terms.specs.Terms.{terms, above}
 use Rattle.tv_spec_series.specs.Families.{Family, row, coefficient, find, comes_before}
@@ -9,7 +8,7 @@ use Rattle.tv_katz.specs.Places.{place, less_by, unit}
 use Rattle.tv_katz.specs.Product.{times, product}
 use Rattle.tv_katz.specs.Katz.{Integer, katz}
 use Rattle.tv_katz.specs.Integers.{integers, candidates}
-use Rattle.tv_katz.specs.Majorant.{majorant, absolute_product, genus_slope}
+use Rattle.tv_katz.specs.Majorant.{majorant, absolute_product}
 
 conifold_heights : List ℤ
 conifold_heights = pos 0 ∷ pos 1 ∷ pos 0 ∷ pos 0 ∷ []
@@ -32,6 +31,19 @@ conifold_first = refl
 conifold_second : map (λ n. katz conifold_integer (place conifold_heights conifold_twice n)) (pos 1 ∷ pos 2 ∷ pos 3 ∷ pos 4 ∷ pos 5 ∷ []) ≡ pos 0 ∷ pos 0 ∷ negsuc 1 ∷ pos 4 ∷ negsuc 9 ∷ []
 unfolding conifold_heights conifold_class conifold_twice conifold_integer katz product times unit less_by power_at binomial choose sum_below
 conifold_second = refl
+
+conifold_series : Family ℤ
+conifold_series = record {
+  heights = conifold_heights;
+  top = pos 2;
+  upto = pos 5;
+  rows = row (pos 0 ∷ pos 0 ∷ pos 0 ∷ pos 0 ∷ []) (terms (pos 0) (pos 1 ∷ pos 0 ∷ pos 0 ∷ pos 0 ∷ pos 0 ∷ pos 0 ∷ [])) ∷ row conifold_class (terms (pos 1) (pos 1 ∷ negsuc 1 ∷ pos 3 ∷ negsuc 3 ∷ pos 5 ∷ [])) ∷ row conifold_twice (terms (pos 3) (negsuc 1 ∷ pos 4 ∷ negsuc 9 ∷ [])) ∷ [];
+}
+
+-- the 1 is read off the series of both classes
+conifold_integers_are : integers 2 conifold_series ≡ conifold_integer
+unfolding conifold_heights conifold_class conifold_twice conifold_integer conifold_series integers candidates comes_before find coefficient at above katz product times unit less_by power_at binomial choose sum_below
+conifold_integers_are = refl
 
 plane_heights : List ℤ
 plane_heights = pos 0 ∷ pos 1 ∷ pos 0 ∷ pos 0 ∷ []
@@ -62,19 +74,6 @@ plane_series = record {
 plane_integers_are : integers 2 plane_series ≡ plane_integers
 unfolding plane_heights line conic plane_integers plane_series integers candidates comes_before find coefficient at above katz product times unit less_by power_at binomial choose sum_below
 plane_integers_are = refl
-
-made_up : Family ℤ
-made_up = record {
-  heights = pos 1 ∷ [];
-  top = pos 1;
-  upto = pos 3;
-  rows = row (pos 0 ∷ []) (terms (pos 0) (pos 1 ∷ pos 0 ∷ pos 0 ∷ pos 0 ∷ [])) ∷ row (pos 1 ∷ []) (terms (pos 2) (pos 1 ∷ pos 0 ∷ [])) ∷ [];
-}
-
--- the made-up series q^2 has no integers, so that it differs at exponent 2
-made_up_integers : integers 1 made_up ≡ []
-unfolding made_up integers candidates comes_before find coefficient at above katz product times unit less_by power_at binomial choose sum_below
-made_up_integers = refl
 
 -- the majorant of the lines of local P^2 at exponent 1: 3 + 2 * 3
 plane_majorant : majorant 2 (pos 3) plane_series plane_integers line (pos 1) ≡ 9

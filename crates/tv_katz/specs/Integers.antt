@@ -14,11 +14,10 @@
 -- integers D f       == the integers of the candidates, class by class in order, the last one first
 -- IsMismatch D N f is v n == the first class of degree at most D, and in it the first exponent at most N, at which Katz's
 --                       product over the integers and the family differ
-use Rattle.std.specs.Prelude.{◌≡◌, ◌≢◌, ◌⊎◌, ℕ, zero, suc, ◌+◌, ◌-◌, ◌*◌, ℤ, pos, negsuc, ◌-ℤ◌, ◌≤ℤ◌, ◌<ℤ◌, max, int_le, int_lt, List, [], ◌∷◌, map, filter, length, Bool, ◌&&◌, if◌then◌else◌, Option, Some, None}
+use Rattle.std.specs.Prelude.{◌≡◌, ◌≢◌, ◌⊎◌, ℕ, zero, suc, ◌+◌, ◌-◌, ◌*◌, ℤ, pos, negsuc, ◌-ℤ◌, ◌≤ℤ◌, max, int_le, int_lt, List, [], ◌∷◌, map, filter, length, Bool, ◌&&◌, if◌then◌else◌, Option, Some, None}
 use Rattle.std.specs.List.{flat_map}
 use Rattle.std.specs.Ordering.{int_eq}
 use Rattle.tv_ring.specs.Whole.{wholes}
-use Rattle.tv_terms.specs.Terms.{Terms}
 use Rattle.tv_spec_plane.specs.Web.{degree_of, numbers_from}
 use Rattle.tv_spec_boxes.specs.Assignments.{zeros, plus, same_vector}
 use Rattle.tv_spec_boxes.specs.Classes.{IsBefore}

@@ -7,7 +7,7 @@
 -- greatest_genus is == the greatest genus; 0 where there is no integer
 -- enough is p       == |exponent| + (greatest genus) * degree: so many factors of genus 0 as can reach the place
 -- katz is p         == (-1)^exponent times the coefficient of the product
-use Rattle.std.specs.Prelude.{ℕ, zero, suc, ◌+◌, ◌-◌, ◌*◌, ℤ, pos, ◌-ℤ◌, ◌*ℤ◌, max, unsigned_abs, List, [], ◌∷◌, ◌++◌}
+use Rattle.std.specs.Prelude.{ℕ, zero, suc, ◌+◌, ◌-◌, ◌*◌, ℤ, pos, ◌-ℤ◌, ◌*ℤ◌, max, unsigned_abs, List, [], ◌∷◌}
 use Rattle.std.specs.List.{flat_map}
 use Rattle.tv_katz.specs.Binomials.{choose, power_sign}
 use Rattle.tv_katz.specs.Places.{Place}

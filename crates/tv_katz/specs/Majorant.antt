@@ -5,7 +5,7 @@
 -- absolute_product is p == Katz's product with each factor without sign, and each power of y counted without sign
 -- majorant D N f is v n == |the coefficient of v at n| + 2 * degree * the absolute product, for n at most N + c D; the family
 --                        counts as 0 beyond N, and the number is 0 where the degree of v is below 0 or above D
-use Rattle.std.specs.Prelude.{ℕ, ◌+◌, ◌-◌, ◌*◌, ◌/◌, ℤ, pos, negsuc, neg_ℤ, ◌+ℤ◌, max, unsigned_abs, int_le, List, [], ◌∷◌, map, cond, ◌&&◌}
+use Rattle.std.specs.Prelude.{ℕ, ◌+◌, ◌-◌, ◌*◌, ◌/◌, ℤ, pos, neg_ℤ, ◌+ℤ◌, max, unsigned_abs, int_le, List, [], ◌∷◌, map, cond, ◌&&◌}
 use Rattle.tv_ring.specs.Whole.{wholes}
 use Rattle.tv_spec_plane.specs.Web.{degree_of}
 use Rattle.tv_spec_series.specs.Families.{Family, coefficient_of}

@@ -1,5 +1,6 @@
--- Worked texts: the configurations of two boxes at one corner, and the integers of the conifold through degree 1.
-use Rattle.std.specs.Prelude.{◌≡◌, pos, negsuc, [], ◌∷◌, codes, refl}
+-- Worked texts: the configurations of two boxes at one corner, the integers of the conifold through degree 2, grids, a
+-- summary, a verdict and the lines of refusals.
+use Rattle.std.specs.Prelude.{◌≡◌, ℤ, pos, negsuc, List, [], ◌∷◌, codes, refl}
 use Rattle.std.specs.Fmt.{digits}
 use Rattle.tv_spec_plane.specs.Plane.{turn}
 use Rattle.tv_spec_plane.specs.Web.{compact, outer, edge_ref, edge_ratio}
@@ -10,18 +11,35 @@ use Rattle.tv_cells.specs.Costs.{row_cost, rows_cost, overlap_cost, overlaps}
 use Rattle.tv_spec_boxes.specs.Assignments.{assignments, choices}
 use Rattle.tv_spec_boxes.specs.Configurations.{fillings}
 use Rattle.tv_spec_text.specs.Lines.{line_text}
-use Rattle.tv_spec_reports.specs.Integers.{gv_text}
+use Rattle.tv_spec_text.specs.Reports.{Term}
+use Rattle.tv_spec_reports.specs.Integers.{GvSection, gv_text}
 use Rattle.tv_spec_reports.specs.Boxes.{boxes_text}
+use Rattle.tv_spec_reports.specs.Grids.{grid_text}
 use Rattle.tv_spec_reports.specs.Summaries.{summary_text}
-use Rattle.tv_spec_reports.specs.Verdicts.{verdict_text}
+use Rattle.tv_spec_reports.specs.Verdicts.{verdict_text, differs_line}
 
 two_boxes : boxes_text one_corner (pos 0 ∷ pos 0 ∷ pos 0 ∷ []) (pos 2) ≡ codes "report boxes\nheights 0 0 0\nchi 2\nclass 0 0 0 0\nsign 1\nconfig\nbox 0 1 0 0\nbox 0 0 0 0\nconfig\nbox 0 0 0 0\nbox 0 0 0 1\nconfig\nbox 0 0 0 0\nbox 0 0 1 0\nend\n"
 unfolding one_corner fillings assignments choices compact outer edge_ref edge_ratio turn diagrams diagrams_within cube sublists_of row_cost rows_cost overlap_cost overlaps line_text digits
 two_boxes = refl
 
-conifold_report : gv_text (pos 0 ∷ pos 1 ∷ pos 0 ∷ pos 0 ∷ []) (pos 1) (pos 2) (record { section = record { degree = pos 0; entries = pos 0 ∷ pos 0 ∷ pos 0 ∷ pos 0 ∷ []; terms = record { exponent = pos 0; coefficient = pos 1 } ∷ [] }; integers = [] } ∷ record { section = record { degree = pos 1; entries = negsuc 0 ∷ pos 1 ∷ negsuc 0 ∷ pos 1 ∷ []; terms = record { exponent = pos 1; coefficient = pos 1 } ∷ record { exponent = pos 2; coefficient = negsuc 1 } ∷ [] }; integers = record { genus = 0; value = pos 1 } ∷ [] } ∷ []) ≡ codes "report gv\nheights 0 1 0 0\ndegree 1\nupto 2\nclass 0 0 0 0 0\nterm 0 1\nclass 1 -1 1 -1 1\nterm 1 1\nterm 2 -2\ninteger 0 1\nend\n"
-unfolding line_text digits
+term : ℤ → ℤ → Term
+term n v = record { exponent = n; coefficient = v }
+
+conifold_sections : List GvSection
+conifold_sections =
+    record { section = record { degree = pos 0; entries = pos 0 ∷ pos 0 ∷ pos 0 ∷ pos 0 ∷ []; terms = term (pos 0) (pos 1) ∷ [] }; integers = [] }
+    ∷ record { section = record { degree = pos 1; entries = negsuc 0 ∷ pos 1 ∷ negsuc 0 ∷ pos 1 ∷ []; terms = term (pos 1) (pos 1) ∷ term (pos 2) (negsuc 1) ∷ term (pos 3) (pos 3) ∷ term (pos 4) (negsuc 3) ∷ term (pos 5) (pos 5) ∷ [] }; integers = record { genus = 0; value = pos 1 } ∷ [] }
+    ∷ record { section = record { degree = pos 2; entries = negsuc 1 ∷ pos 2 ∷ negsuc 1 ∷ pos 2 ∷ []; terms = term (pos 3) (negsuc 1) ∷ term (pos 4) (pos 4) ∷ term (pos 5) (negsuc 9) ∷ [] }; integers = [] }
+    ∷ []
+
+conifold_report : gv_text (pos 0 ∷ pos 1 ∷ pos 0 ∷ pos 0 ∷ []) (pos 2) (pos 5) conifold_sections ≡ codes "report gv\nheights 0 1 0 0\ndegree 2\nupto 5\nclass 0 0 0 0 0\nterm 0 1\nclass 1 -1 1 -1 1\nterm 1 1\nterm 2 -2\nterm 3 3\nterm 4 -4\nterm 5 5\ninteger 0 1\nclass 2 -2 2 -2 2\nterm 3 -2\nterm 4 4\nterm 5 -10\nend\n"
+unfolding line_text digits conifold_sections term
 conifold_report = refl
+
+-- the unit square cut by its diagonal from the origin
+unit_grid : grid_text 1 ≡ codes "tv 1\npoint 0 0\npoint 1 0\npoint 0 1\npoint 1 1\ntriangle 0 1 3\ntriangle 0 3 2\nheights 0 1 1 1\nend\n"
+unfolding line_text digits
+unit_grid = refl
 
 grid_summary : summary_text (record { grid = 2; degree = 1; upto = pos 2; classes = 9; terms = 19; zero = pos 52; sum = 999999980 }) ≡ codes "report summary\ngrid 2\ndegree 1\nupto 2\nclasses 9\nterms 19\nzero 52\nsum 999999980\nend\n"
 unfolding line_text digits
@@ -30,3 +48,8 @@ grid_summary = refl
 yes : verdict_text ≡ codes "report verify\nverdict yes\nend\n"
 unfolding line_text digits
 yes = refl
+
+-- a report of the conifold that says 6 at exponent 5 of its curve
+differing : line_text (differs_line (pos 5) (pos 6) (pos 5) (negsuc 0 ∷ pos 1 ∷ negsuc 0 ∷ pos 1 ∷ [])) ≡ codes "refused differs 5 6 5 class -1 1 -1 1\n"
+unfolding line_text digits
+differing = refl

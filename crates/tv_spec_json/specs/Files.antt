@@ -1,0 +1,51 @@
+-- The form of files in JSON, over the value that serde_json reads. In such a value each key of an object stands once, in
+-- the order of its codes, and a number without fraction and exponent that 64 bits hold is a whole number.
+--
+-- whole z          == the value of a whole number
+-- values f xs      == the array of the values f x
+-- point_value p    == the array of the two coordinates
+-- triangle_value t == the array of the three numbers of points
+-- file_value w     == the object that spells a web: its heights, its points, its triangles, and `tv` 1
+-- SpellsValue d w  == the value d spells that web; the numbers are within those of a text
+-- IsFileValue d    == d spells some web
+-- IsFileJson bytes w == the bytes read as a value that spells that web
+use Rattle.std.specs.Prelude.{◌≡◌, ℕ, ℤ, pos, List, [], ◌∷◌, codes, Some}
+use Rattle.serde_json.specs.Data.{Data, number, array, object, Items, no_items, item, no_members, member}
+use Rattle.serde_json.specs.Find.{of_integer}
+use Rattle.serde_json.specs.Read.{read}
+use Rattle.tv_spec_plane.specs.declared.records.Triple.{Triple}
+use Rattle.tv_spec_plane.specs.Plane.{Point}
+use Rattle.tv_spec_plane.specs.Web.{Web}
+use Rattle.tv_spec_text.specs.Files.{Fits}
+
+abbrev pub whole : ℤ → Data
+whole z = number (of_integer z)
+
+abbrev pub items : {A : Type 0} → (A → Data) → List A → Items
+items f [] = no_items
+items f (x ∷ xs) = item (f x) (items f xs)
+
+abbrev pub values : {A : Type 0} → (A → Data) → List A → Data
+values f xs = array (items f xs)
+
+abbrev pub point_value : Point → Data
+point_value p = values whole (p.x ∷ p.y ∷ [])
+
+abbrev pub triangle_value : Triple → Data
+triangle_value t = values whole (pos t.a ∷ pos t.b ∷ pos t.c ∷ [])
+
+abbrev pub file_value : Web → Data
+file_value w =
+    object (member (codes "heights") (values whole w.heights) (member (codes "points") (values point_value w.points) (member (codes "triangles") (values triangle_value w.triangles) (member (codes "tv") (whole (pos 1)) no_members))))
+
+pub record SpellsValue (d : Data) (w : Web) : Type 0 where
+  pub fits : Fits w
+  pub same : d ≡ file_value w
+
+abbrev pub IsFileValue : Data → Type 0
+IsFileValue d = (w : Web) × SpellsValue d w
+
+pub record IsFileJson (bytes : List ℕ) (w : Web) : Type 0 where
+  pub value : Data
+  pub reads : read bytes ≡ Some value
+  pub spells : SpellsValue value w
