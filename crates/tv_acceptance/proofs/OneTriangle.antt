@@ -9,7 +9,8 @@ use Rattle.tv_spec_hull.specs.Members.{Among}
 use Rattle.tv_spec_hull.specs.Hull.{IsHull}
 use Rattle.tv_spec_hull.specs.Edges.{sides, IsTurned, IsMatched}
 use Rattle.tv_tiling.specs.Points.{AreDistinct}
-use Rattle.tv_tiling.proofs.Turns.{turn-rotate, turn-sum, turn-apart}
+use Rattle.tv_spec_hull.proofs.Turns.{turn-rotate}
+use Rattle.tv_tiling.proofs.Turns.{turn-sum, turn-apart}
 use Rattle.tv_tiling_converse.proofs.Corners.{corner-same}
 use Rattle.tv_spec_boxes.specs.OneCorner.{NamesAll}
 

@@ -10,7 +10,7 @@ use Rattle.tv_lattice.specs.Limits.{HasCoordinates}
 use Rattle.tv_lattice.specs.declared.fault.FileFault.{FileFault}
 use Rattle.tv_lattice.specs.declared.fault.FileFault.TheVariants.{TooLong, Line, Json, TooMany, Repeated, Index, Flat, Area, Twice, Unmatched, Bare, HeightCount, Degree}
 use Rattle.tv_triangulation.specs.Turned.{turned, IsUnit}
-use Rattle.tv_triangulation.specs.Checks.{AreListed, AreUnit, IsTwice, IsUnmatched, IsBare}
+use Rattle.tv_triangulation.specs.Checks.{IsTwice, IsUnmatched, IsBare}
 use Rattle.tv_triangulation.specs.Faults.{IsFirstFault}
 use Rattle.tv_tiling.specs.Points.{AreSmall}
 use Rattle.tv_tiling.proofs.Lists.{all-at, among-flat_map}
@@ -19,7 +19,8 @@ use Rattle.tv_tiling_converse.proofs.Neighbours.{edges-once, edges-outer}
 use Rattle.tv_tiling_converse.proofs.Tiled.{outer-covered}
 use Rattle.tv_acceptance.specs.Triangulated.{IsTiled}
 use Rattle.tv_acceptance.proofs.Spread.{not_flat-spread}
-use Rattle.tv_acceptance.proofs.Turning.{all_turned, exchange_at, length-turned}
+use Rattle.tv_triangulation.proofs.Turning.{turned-all}
+use Rattle.tv_acceptance.proofs.Turning.{exchange_at, length-turned}
 
 abbrev no_triple : Triple
 no_triple = record { a = 0; b = 0; c = 0 }
@@ -51,7 +52,7 @@ once-apart f d s (x ∷ xs) once (suc i) (suc j) l m p q = once-apart f d s xs (
 
 module _ (ps : List Point) (ts : List Triple) (coordinates : AllByRecursion HasCoordinates ps) (t : IsTiled ps ts) where
   turned_all : AreTurned ps (turned ps ts)
-  turned_all = all_turned ps ts t.listed t.unit
+  turned_all = turned-all ps ts t.listed t.unit
 
   tiles_turned : Tiles ps (turned ps ts)
   tiles_turned = (exchanged_triangles_tile ps ts (turned ps ts) (length-turned ps ts) (exchange_at ps ts)).0 t.tiles

@@ -4,7 +4,10 @@
 -- same c d        == the two cells are one
 -- precedes c d    == c comes before d: the lesser y - x first, then the lesser x, then the lesser z
 -- rises cells     == each cell precedes the next one
+-- numbers_from k n == k, k + 1, .., n numbers
 -- below n         == 0, 1, .., n - 1
+-- x_from t, y_from t == where the diagonal with x - y = t begins
+-- column t d h    == the cells at place d of that diagonal, of heights 0 to h - 1
 -- diagonal t n h  == the cells with x - y = t at the first n places of their diagonal, of heights 0 to h - 1
 -- falling n t     == t, t - 1, .., n numbers
 -- cube n          == the cells with all entries below n, each once, in their order

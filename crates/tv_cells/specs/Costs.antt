@@ -1,8 +1,11 @@
 -- What a diagram on an edge and the legs of a corner add to the Euler characteristic.
 --
+-- row_cost a b i n    == the sum of 1 - a i - b j over j below n
+-- rows_cost a b i rows == the sum over the rows, the first of which is row i
 -- edge_cost rows a b  == the sum of 1 - a i - b j over the cells (i, j) of the diagram
 -- column_cost legs x y == what the cells over (x, y) add to the overlap cost: in the leg along z each cell of another
 --                        leg adds 1, else each cell of both others
+-- overlaps legs cells == the sum over the cells of one less than the number of legs that have it, where any has
 -- overlap_cost legs   == 1 for each cell in exactly two legs, and 2 for each cell in three
 use Rattle.std.specs.Prelude.{ℕ, zero, suc, ◌+◌, ◌-◌, ℤ, pos, ◌+ℤ◌, ◌-ℤ◌, ◌*ℤ◌, min, cond, slice_index, List, [], ◌∷◌}
 use Rattle.tv_partition.specs.Rows.{has}

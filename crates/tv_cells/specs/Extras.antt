@@ -1,5 +1,6 @@
 -- The boxes of a corner beside its legs, and how many sets of them there are.
 --
+-- bit b                 == 1 where b holds, else 0
 -- legs_at legs c        == the number of legs that have the cell
 -- in_union legs cells c == the cell is in a leg or among the cells
 -- stands legs cells c   == the cell is in no leg, and in each direction the cell one step lower, if there is one, is in the union

@@ -2,6 +2,7 @@
 --
 -- heights x y k n       == the cells at (x, y) with z from k on, n of them
 -- columns x y h k n     == the columns of height h at (x + k, y + k) and the n - 1 places after it
+-- diagonal_of side k    == diagonal number k of the cube of that side
 -- diagonals side k n    == the diagonals of the cube of that side from number k on, n of them, number 0 being that of the greatest x
 use Rattle.std.specs.Prelude.{ℕ, ◌+◌, ◌-◌, List, map}
 use Rattle.std.specs.List.{flat_map}

@@ -1,4 +1,4 @@
--- The parity of an edge's class at the even points, and its degree at linear heights.
+-- The parity of an edge's class at the even points, and its degree at affine heights.
 use Rattle.std.specs.Prelude.{◌≡◌, ℕ, Bool, true, false, cond, ◌||◌, ℤ, pos, ◌+ℤ◌, ◌-ℤ◌, ◌*ℤ◌, neg_ℤ, List, [], ◌∷◌, map}
 use Rattle.std.proofs.Common.{refl, sym, ap, ◌∙◌, inl, inr, arith}
 use Rattle.std.proofs.lemmas.Int.{ints}
@@ -7,7 +7,7 @@ use Rattle.tv_spec_plane.specs.Plane.{Point, at, turn}
 use Rattle.tv_spec_plane.specs.Web.{Web, degree_of, edge_class, edge_ratio, normal_a, normal_b, even_sum, is_even_point}
 use Rattle.tv_lemmas.proofs.Integers.{diff_of, diff-pos, diff-same, diffs}
 use Rattle.tv_edge_laws.specs.Rule.{HasSides, IsRule, HasRule}
-use Rattle.tv_edge_laws.specs.Laws.{ClassParity, FlatDegree, linear}
+use Rattle.tv_edge_laws.specs.Laws.{ClassParity, FlatDegree, affine}
 use Rattle.tv_edge_laws.proofs.Rules.{ratio-rule}
 use Rattle.tv_edge_laws.proofs.Parity.{is_even, eqv, is_even-add, is_even-sub, is_even-mul, is_even-neg, same_parity}
 use Rattle.tv_edge_laws.proofs.Bits.{weight_even, turn_even, rule_even, same-eqv, sum_even-is}
@@ -146,7 +146,7 @@ class-even w e rule =
 pub class_parity : ClassParity
 class_parity w e rule = same_parity (even_sum w.points (edge_class w e)) (normal_a w e) (class-even w e rule)
 
--- linear heights, one coordinate at a time
+-- affine heights, one coordinate at a time
 spread : (i j k m : ℤ) → ((i +ℤ j) +ℤ k) *ℤ m ≡ ((i *ℤ m) +ℤ (j *ℤ m)) +ℤ (k *ℤ m)
 spread i j k m =
     let q = diff_of i in let r = diff_of j in let s = diff_of k in let t = diff_of m in
@@ -172,9 +172,9 @@ flat_height k r =
     let e : k *ℤ pos 2 ≡ k +ℤ k = omega (arith, ints) in
     omega (arith, ints, flat_twice (pos 2) k r)
 
-flat_points : (i j k r : ℤ) (a b c d : Point) → IsRule a b c d (pos 2 -ℤ r) r → (linear i j k c +ℤ linear i j k d) +ℤ ((linear i j k a *ℤ (r -ℤ pos 2)) +ℤ (linear i j k b *ℤ neg_ℤ r)) ≡ pos 0
+flat_points : (i j k r : ℤ) (a b c d : Point) → IsRule a b c d (pos 2 -ℤ r) r → (affine i j k c +ℤ affine i j k d) +ℤ ((affine i j k a *ℤ (r -ℤ pos 2)) +ℤ (affine i j k b *ℤ neg_ℤ r)) ≡ pos 0
 flat_points i j k r a b c d rule = omega (arith, ints, spread (i *ℤ a.x) (j *ℤ a.y) k (r -ℤ pos 2), spread (i *ℤ b.x) (j *ℤ b.y) k (neg_ℤ r), flat_coordinate i a.x b.x c.x d.x r rule.x, flat_coordinate j a.y b.y c.y d.y r rule.y, flat_height k r)
 
 pub flat_degree : FlatDegree
 flat_degree w e i j k rule =
-    degree_of-edge_class (linear i j k) w e (apart w e rule) (listed w e rule) ∙ flat_points i j k (edge_ratio w e) (at w.points e.a) (at w.points e.b) (at w.points e.c) (at w.points e.d) (ratio_holds w e rule)
+    degree_of-edge_class (affine i j k) w e (apart w e rule) (listed w e rule) ∙ flat_points i j k (edge_ratio w e) (at w.points e.a) (at w.points e.b) (at w.points e.c) (at w.points e.d) (ratio_holds w e rule)

@@ -14,7 +14,8 @@ pub fn class_has_parity_of_normal_degree()
     ensures { ClassParity }
 {}
 
-/// Heights that are a linear function of the point give every edge the degree 0, so the degree is that of the bend alone.
+/// Heights i x + j y + k give the degree 0 to every edge that has the edge rule, so its degree is that of the bend of the
+/// heights alone.
 pub fn flat_heights_have_no_degree()
     ensures { FlatDegree }
 {}

@@ -8,8 +8,9 @@ use Rattle.tv_spec_plane.specs.Web.{has, opposite}
 use Rattle.tv_spec_hull.specs.Members.{Among}
 use Rattle.tv_spec_hull.specs.Edges.{sides, IsListed, IsTurned}
 use Rattle.tv_triangulation.specs.Turned.{turn_of, turned_of, IsUnit}
-use Rattle.tv_tiling.proofs.Turns.{turn-rotate, turn-exchange, turn-first, turn-second, turn-last}
-use Rattle.tv_acceptance.proofs.Turning.{turned_one}
+use Rattle.tv_spec_hull.proofs.Turns.{turn-rotate, turn-exchange, turn-first}
+use Rattle.tv_tiling.proofs.Turns.{turn-second, turn-last}
+use Rattle.tv_triangulation.proofs.Turning.{turned-one}
 
 abbrev Names : ℕ → ℕ → ℕ → ℕ → ℕ → ℕ → Type 0
 Names p q r a b o = (p ≡ a) × (q ≡ b) × (r ≡ o)
@@ -121,4 +122,4 @@ module _ (ps : List Point) (t : Triple) (u : IsUnit ps t) where
   c_not_a e = not_flat (turn_of ps t) u (subst (λ k. turn (at ps t.a) (at ps t.b) (at ps k) ≡ pos 0) (sym e) (turn-last (at ps t.a) (at ps t.b)))
 
 pub beside_edge : (ps : List Point) (t : Triple) (a b : ℕ) → IsListed ps t → IsUnit ps t → a ≢ b → has t a ≡ true → has t b ≡ true → IsBeside ps (turned_of ps t) a b (opposite t a b)
-beside_edge ps t a b l u apart ha hb = beside ps (turned_of ps t) a b (opposite t a b) (turned_one ps t l u) (stands_turned t a b (opposite t a b) (int_lt (turn_of ps t) (pos 0)) (stands_by t a b (a_not_b ps t u) (b_not_c ps t u) (c_not_a ps t u) apart (has_cases t a ha) (has_cases t b hb)))
+beside_edge ps t a b l u apart ha hb = beside ps (turned_of ps t) a b (opposite t a b) (turned-one ps t l u) (stands_turned t a b (opposite t a b) (int_lt (turn_of ps t) (pos 0)) (stands_by t a b (a_not_b ps t u) (b_not_c ps t u) (c_not_a ps t u) apart (has_cases t a ha) (has_cases t b hb)))

@@ -9,12 +9,13 @@ use Rattle.tv_spec_hull.specs.Edges.{sides, edges}
 use Rattle.tv_lattice.specs.Limits.{HasCoordinates}
 use Rattle.tv_triangulation.specs.Turned.{turned}
 use Rattle.tv_tiling.specs.Points.{AreSmall}
-use Rattle.tv_tiling.proofs.Cancels.{append-among_right}
+use Rattle.tv_spec_hull.proofs.Members.{append-among_right}
 use Rattle.tv_tiling.proofs.Lists.{among-flat_map}
 use Rattle.tv_tiling.proofs.Exchanges.{exchanged_triangles_tile}
 use Rattle.tv_tiling_converse.proofs.Neighbours.{edges-once}
 use Rattle.tv_acceptance.specs.Triangulated.{IsTiled}
-use Rattle.tv_acceptance.proofs.Turning.{all_turned, exchange_at, length-turned}
+use Rattle.tv_triangulation.proofs.Turning.{turned-all}
+use Rattle.tv_acceptance.proofs.Turning.{exchange_at, length-turned}
 
 parts_apart : {A : Type 0} (s : A) (xs ys : List A) → Once (xs ++ ys) → Among s xs → Among s ys → ⊥
 parts_apart s [] ys once p q = p
@@ -39,5 +40,5 @@ small (p ∷ ps) h = (record { x = h.0.0; y = h.0.1 }, small ps h.1)
 pub no_shared_side : (ps : List Point) (ts : List Triple) → AllByRecursion HasCoordinates ps → IsTiled ps ts → (s : Segment) (i j : ℕ) → i < j → j < length ts → Among s (sides (triangle_at (turned ps ts) i)) → Among s (sides (triangle_at (turned ps ts) j)) → ⊥
 no_shared_side ps ts coordinates t s i j l m p q =
     let whole = (exchanged_triangles_tile ps ts (turned ps ts) (length-turned ps ts) (exchange_at ps ts)).0 t.tiles in
-    let once = edges-once ps (turned ps ts) (small ps coordinates) t.distinct (all_turned ps ts t.listed t.unit) whole in
+    let once = edges-once ps (turned ps ts) (small ps coordinates) t.distinct (turned-all ps ts t.listed t.unit) whole in
     sides_apart s (turned ps ts) once i j l (subst (λ n. j < n) (length-turned ps ts) m) p q

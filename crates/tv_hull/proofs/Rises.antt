@@ -16,24 +16,6 @@ unfoldable pub toward : Bool → Point → Point → ℤ
 toward false p q = rise p q
 toward true p q = rise q p
 
-pub turn-rotate : (a b c : Point) → turn b c a ≡ turn a b c
-unfolding turn
-turn-rotate a b c =
-    let r = diff_of a.x in let s = diff_of a.y in let t = diff_of b.x in let u = diff_of b.y in let v = diff_of c.x in let w = diff_of c.y in
-    rw (r.2, s.2, t.2, u.2, v.2, w.2) (simp diffs (diff-same _ _ _ _ (omega arith)))
-
-pub turn-exchange : (a b c : Point) → turn a c b ≡ neg_ℤ (turn a b c)
-unfolding turn
-turn-exchange a b c =
-    let r = diff_of a.x in let s = diff_of a.y in let t = diff_of b.x in let u = diff_of b.y in let v = diff_of c.x in let w = diff_of c.y in
-    rw (r.2, s.2, t.2, u.2, v.2, w.2) (simp diffs (diff-same _ _ _ _ (omega arith)))
-
-pub turn-first : (a c : Point) → turn a a c ≡ pos 0
-unfolding turn
-turn-first a c =
-    let r = diff_of a.x in let s = diff_of a.y in let v = diff_of c.x in let w = diff_of c.y in
-    rw (r.2, s.2, v.2, w.2, diff-pos 0) (simp diffs (diff-same _ _ _ _ (omega arith)))
-
 -- the turn of three points from a fourth
 pub turn-from : (o a b c : Point) → turn a b c ≡ turn o a b +ℤ (turn o b c +ℤ turn o c a)
 unfolding turn

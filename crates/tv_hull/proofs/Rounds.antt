@@ -1,39 +1,22 @@
 -- A way up and a way down make the hull: all hull segments lie on them, each once.
-use Rattle.std.specs.Prelude.{◌≡◌, ℕ, ◌<◌, pos, ◌≤ℤ◌, ◌<ℤ◌, ◌⊎◌, Bool, true, false, List, [], ◌∷◌, ◌++◌, length}
+use Rattle.std.specs.Prelude.{◌≡◌, ℕ, ◌<◌, pos, ◌≤ℤ◌, ◌<ℤ◌, Bool, true, false, List, [], ◌∷◌, ◌++◌, length}
 use Rattle.std.specs.List.{AllByRecursion}
 use Rattle.std.proofs.Common.{subst, sym, refl, arith, inl, inr}
 use Rattle.std.proofs.lemmas.Int.{ints}
 use Rattle.tv_lattice.specs.Limits.{HasCoordinates}
 use Rattle.tv_spec_plane.specs.Plane.{Point, at, turn, Segment, IsHullSegment}
 use Rattle.tv_spec_hull.specs.Members.{Among, Once}
+use Rattle.tv_spec_hull.proofs.Members.{among-append, append-among_left, append-among_right, once-append}
 use Rattle.tv_spec_hull.specs.Hull.{IsLeast, IsClimb, IsDescent, IsRound, IsHull}
 use Rattle.tv_lemmas.proofs.Signs.{sign}
 use Rattle.tv_hull.specs.Points.{AreDistinct}
 use Rattle.tv_hull.specs.Ways.{IsEnd, IsStart, IsWay, IsRun}
-use Rattle.tv_hull.proofs.Rises.{toward, toward-back, toward-add, toward-same, toward-opposite, turn-exchange}
+use Rattle.tv_spec_hull.proofs.Turns.{turn-exchange}
+use Rattle.tv_hull.proofs.Rises.{toward, toward-back, toward-add, toward-same, toward-opposite}
 use Rattle.tv_hull.proofs.Compare.{small-at, ahead-toward, not_ahead-toward, toward-level}
 use Rattle.tv_hull.proofs.HalfPlane.{overlap}
 use Rattle.tv_hull.proofs.Between.{ahead-between}
 use Rattle.tv_hull.proofs.Steps.{level}
-
--- ---- members
-among-append : {A : Type 0} (x : A) (xs ys : List A) → Among x (xs ++ ys) → Among x xs ⊎ Among x ys
-among-append x [] ys among = inr among
-among-append x (z ∷ xs) ys (inl same) = inl (inl same)
-among-append x (z ∷ xs) ys (inr among) = elim (among-append x xs ys among) [ inl first ↦ inl (inr first) | inr second ↦ inr second ]
-
-among-left : {A : Type 0} (x : A) (xs ys : List A) → Among x xs → Among x (xs ++ ys)
-among-left x [] ys none = absurd none
-among-left x (z ∷ xs) ys (inl same) = inl same
-among-left x (z ∷ xs) ys (inr among) = inr (among-left x xs ys among)
-
-among-right : {A : Type 0} (x : A) (xs ys : List A) → Among x ys → Among x (xs ++ ys)
-among-right x [] ys among = among
-among-right x (z ∷ xs) ys among = inr (among-right x xs ys among)
-
-once-append : {A : Type 0} (xs ys : List A) → Once xs → Once ys → ((x : A) → Among x xs → Among x ys → ⊥) → Once (xs ++ ys)
-once-append [] ys first second apart = second
-once-append (x ∷ xs) ys first second apart = (λ among. elim (among-append x xs ys among) [ inl again ↦ first.0 again | inr other ↦ apart x (inl refl) other ], once-append xs ys first.1 second (λ y h k. apart y (inr h) k))
 
 -- ---- two hull segments whose ways overlap are one
 module _ (ps : List Point) (small : AllByRecursion HasCoordinates ps) (distinct : AreDistinct ps) where
@@ -135,9 +118,9 @@ module _ (ps : List Point) (small : AllByRecursion HasCoordinates ps) (distinct 
 
   whole-runs : (s g e : ℕ) (up back : List Segment) → IsLeast ps s → IsRun ps false s up g → IsRun ps true g back e → (a b : ℕ) → IsHullSegment ps a b → Among (a, b) (up ++ back)
   whole-runs s g e up back least rise fall a b hull = elim (sign (toward false (at ps a) (at ps b))) [
-    | inl less ↦ among-right (a, b) up back (run-whole true g back e a b (end-start false s up g rise) fall hull (omega (arith, ints, toward-opposite (at ps a) (at ps b))))
+    | inl less ↦ append-among_right (a, b) up back (run-whole true g back e a b (end-start false s up g rise) fall hull (omega (arith, ints, toward-opposite (at ps a) (at ps b))))
     | inr (inl same) ↦ absurd (hull.apart (toward-level false (at ps a) (at ps b) (small-at ps a small) (small-at ps b small) same))
-    | inr (inr more) ↦ among-left (a, b) up back (run-whole false s up g a b (least-start s least) rise hull more)
+    | inr (inr more) ↦ append-among_left (a, b) up back (run-whole false s up g a b (least-start s least) rise hull more)
   ]
 
   pub hull-runs : (s g e : ℕ) (up back : List Segment) → IsLeast ps s → IsRun ps false s up g → IsRun ps true g back e → IsHull ps (up ++ back)

@@ -1,5 +1,5 @@
 -- Worked values of Katz's product and of the integers.
-use Rattle.std.specs.Prelude.{◌≡◌, ℤ, pos, negsuc, List, [], ◌∷◌, map, refl}
+use Rattle.std.specs.Prelude.{◌≡◌, ℕ, ℤ, pos, negsuc, List, [], ◌∷◌, map, refl}
 use Rattle.tv_ring.specs.Sums.{at}
 use Rattle.tv_terms.specs.Terms.{terms, above}
 use Rattle.tv_spec_series.specs.Families.{Family, row, coefficient, find, comes_before}
@@ -8,7 +8,7 @@ use Rattle.tv_katz.specs.Places.{place, less_by, unit}
 use Rattle.tv_katz.specs.Product.{times, product}
 use Rattle.tv_katz.specs.Katz.{Integer, katz}
 use Rattle.tv_katz.specs.Integers.{integers, candidates}
-use Rattle.tv_katz.specs.Majorant.{majorant, absolute_product}
+use Rattle.tv_katz.specs.Majorant.{majorant, absolute_product, genus_slope}
 
 conifold_heights : List ℤ
 conifold_heights = pos 0 ∷ pos 1 ∷ pos 0 ∷ pos 0 ∷ []
@@ -79,3 +79,56 @@ plane_integers_are = refl
 plane_majorant : majorant 2 (pos 3) plane_series plane_integers line (pos 1) ≡ 9
 unfolding plane_heights line conic plane_integers plane_series majorant absolute_product comes_before find coefficient at above product times unit less_by power_at binomial choose sum_below
 plane_majorant = refl
+
+-- a list that is a part of the class has none
+part_majorant : majorant 2 (pos 3) plane_series plane_integers (negsuc 2 ∷ pos 1 ∷ []) (pos 1) ≡ 0
+unfolding plane_heights plane_series plane_integers majorant
+part_majorant = refl
+
+-- one height of 1, so that a class is its degree
+alone : ℕ → ℤ → List Integer
+alone g z = record { degree = pos 1; class = pos 1 ∷ []; genus = g; value = z } ∷ []
+
+alone_at : ℕ → ℤ → ℕ → List ℤ → List ℤ
+alone_at g z d ns = map (λ n. katz (alone g z) (place (pos 1 ∷ []) (pos d ∷ []) n)) ns
+
+-- an integer of genus 1: -10 in degree 1 at exponent 0, and 45 in degree 2
+elliptic_first : alone_at 1 (negsuc 9) 1 (negsuc 0 ∷ pos 0 ∷ pos 1 ∷ []) ≡ pos 0 ∷ negsuc 9 ∷ pos 0 ∷ []
+unfolding alone alone_at katz product times unit less_by power_at binomial choose sum_below
+elliptic_first = refl
+
+elliptic_second : alone_at 1 (negsuc 9) 2 (negsuc 0 ∷ pos 0 ∷ pos 1 ∷ []) ≡ pos 0 ∷ pos 45 ∷ pos 0 ∷ []
+unfolding alone alone_at katz product times unit less_by power_at binomial choose sum_below
+elliptic_second = refl
+
+elliptic_series : Family ℤ
+elliptic_series = record {
+  heights = pos 1 ∷ [];
+  top = pos 2;
+  upto = pos 1;
+  rows = row (pos 0 ∷ []) (terms (pos 0) (pos 1 ∷ pos 0 ∷ [])) ∷ row (pos 1 ∷ []) (terms (pos 0) (negsuc 9 ∷ pos 0 ∷ [])) ∷ row (pos 2 ∷ []) (terms (pos 0) (pos 45 ∷ pos 0 ∷ [])) ∷ [];
+}
+
+-- so the 45 of twice its class is no integer
+elliptic_integers_are : integers 2 elliptic_series ≡ alone 1 (negsuc 9)
+unfolding alone elliptic_series integers candidates comes_before find coefficient at above katz product times unit less_by power_at binomial choose sum_below
+elliptic_integers_are = refl
+
+-- one of genus 2: 1, 2, 1 around exponent 0 in degree 1, and 2, 4, 2 in degree 2
+genus_two_first : alone_at 2 (pos 1) 1 (negsuc 1 ∷ negsuc 0 ∷ pos 0 ∷ pos 1 ∷ pos 2 ∷ []) ≡ pos 0 ∷ pos 1 ∷ pos 2 ∷ pos 1 ∷ pos 0 ∷ []
+unfolding alone alone_at katz product times unit less_by power_at binomial choose sum_below
+genus_two_first = refl
+
+genus_two_second : alone_at 2 (pos 1) 2 (negsuc 2 ∷ negsuc 1 ∷ negsuc 0 ∷ pos 0 ∷ pos 1 ∷ pos 2 ∷ []) ≡ pos 0 ∷ pos 0 ∷ pos 2 ∷ pos 4 ∷ pos 2 ∷ pos 0 ∷ []
+unfolding alone alone_at katz product times unit less_by power_at binomial choose sum_below
+genus_two_second = refl
+
+-- without signs its product is 1, 2, 4, 2, 1 in degree 2
+genus_two_absolute : map (λ n. absolute_product (alone 2 (pos 1)) (place (pos 1 ∷ []) (pos 2 ∷ []) n)) (negsuc 1 ∷ negsuc 0 ∷ pos 0 ∷ pos 1 ∷ pos 2 ∷ []) ≡ pos 1 ∷ pos 2 ∷ pos 4 ∷ pos 2 ∷ pos 1 ∷ []
+unfolding alone absolute_product product times unit less_by power_at binomial choose sum_below
+genus_two_absolute = refl
+
+-- g - 1 at most c times the degree: 1 for genus 2 in degree 1, and an integer 0 does not count
+slopes : map genus_slope (alone 2 (pos 1) ∷ alone 2 (pos 0) ∷ alone 0 (pos 1) ∷ []) ≡ 1 ∷ 0 ∷ 0 ∷ []
+unfolding alone
+slopes = refl

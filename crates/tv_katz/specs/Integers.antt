@@ -1,17 +1,25 @@
 -- The integers of a family of reduced series, read off class by class, and where product and series differ.
 --
 -- positive_classes f == the classes of the family that have a degree of at least 1
--- sums n vs hs       == the sums of n of the classes
+-- sums n vs hs       == the sums of n of the classes, with repetition, in every order
 -- insert_class hs v vs == the sorted list with v in it, once
+-- sorted hs vs       == the list in order, each once
+-- is_within D hs v   == the degree is from 1 to D
 -- candidates D f     == the classes of degree 1 to D that are sums of classes of the family, each once, in order
 -- lowest_of xs low   == how far the first coefficient other than 0 is below exponent 0; 0 where there is none or it is not
+-- series_depth x     == that of the series of the row that was found
+-- genus_depth is     == the greatest of 0 and of g - 1 over the integers
 -- slope f v is       == the greatest of 0, of g - 1 over the integers so far, and of minus the lowest exponent of the series
 --                       of v where it isn't zero
+-- with_integer v degree g value is == the integers with that one, which is left out where it is 0
 -- read_genus f v g is == the integers with n_g(v), which is the coefficient of v at 1 - g less that of Katz's product over
 --                       the integers so far; an integer 0 is left out
 -- read_down f v g is == the same for the genera g, g - 1, .., 0
 -- read_class f is v  == the same for the genera from 1 + degree * slope down
+-- read_classes f is vs == the same for the classes, one after another
 -- integers D f       == the integers of the candidates, class by class in order, the last one first
+-- Differs f is v n   == at the class v and the exponent n Katz's product over the integers and the family differ
+-- IsCompared D N f v n == v has an entry for each height and a degree of at most D, also 0 or below, and n is at most N
 -- IsMismatch D N f is v n == the first class of degree at most D, and in it the first exponent at most N, at which Katz's
 --                       product over the integers and the family differ
 use Rattle.std.specs.Prelude.{◌≡◌, ◌≢◌, ◌⊎◌, ℕ, zero, suc, ◌+◌, ◌-◌, ◌*◌, ℤ, pos, negsuc, ◌-ℤ◌, ◌≤ℤ◌, max, int_le, int_lt, List, [], ◌∷◌, map, filter, length, Bool, ◌&&◌, if◌then◌else◌, Option, Some, None}

@@ -1,11 +1,14 @@
 -- Katz's product over integers n_g(B), in the variable q = -y.
 --
 -- Integer           == an integer n_g(B): the class B with its degree, the genus g, the value
+-- factor_at i m e   == the factor (1 - y^m Q^B)^e, with B the class of the integer
 -- genus_zero J i    == the factors (1 - y^j Q^B)^(j n) with j from 1 to J
 -- higher_genus i    == the factors (1 - y^(g-1-k) Q^B)^((-1)^(k+g) n binomial(2g-2, k)) with k from 0 to 2g-2
+-- higher_below n i  == those with k below n
+-- factors_by g J i  == the factors of an integer of genus g
 -- factors J is      == the factors of all integers
 -- greatest_genus is == the greatest genus; 0 where there is no integer
--- enough is p       == |exponent| + (greatest genus) * degree: so many factors of genus 0 as can reach the place
+-- enough is p       == |exponent| + (greatest genus) * degree: no factor of genus 0 beyond that many reaches the place
 -- katz is p         == (-1)^exponent times the coefficient of the product
 use Rattle.std.specs.Prelude.{ℕ, zero, suc, ◌+◌, ◌-◌, ◌*◌, ℤ, pos, ◌-ℤ◌, ◌*ℤ◌, max, unsigned_abs, List, [], ◌∷◌}
 use Rattle.std.specs.List.{flat_map}

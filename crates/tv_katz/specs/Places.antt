@@ -2,7 +2,7 @@
 --
 -- Place          == degree, class and exponent; the degree is carried along, so that what is left of it computes
 -- place hs v n   == the place of the class v at the exponent n, with the degree that the heights give
--- class_less u v == the difference entry by entry
+-- class_less u v == the difference entry by entry, of vectors of equal length
 -- less p x       == what is left of the place p when the place x is taken off
 -- less_by k p x  == the same, taken off k times
 -- is_zero_class v == all entries are 0

@@ -1,8 +1,9 @@
--- Products of powers of 1 - X over places X of positive degree, coefficient by coefficient.
+-- Products of powers of 1 - X, coefficient by coefficient. Each place X has the degree of its class, and that is at least 1.
 --
 -- Factor           == (1 - X)^power, with X at a place
 -- times most f rest p == the coefficient at p of the factor times the series rest, with powers of X up to most: a sum over
 --                     the powers of X
+-- natural z        == z, or 0 where it is below 0
 -- product fs p     == the coefficient at p of the product of the factors: the sum over all choices of a power k for each
 --                     factor, such that the classes k times class add up to that of p and the exponents likewise, of the
 --                     products of (-1)^k binomial(power, k)

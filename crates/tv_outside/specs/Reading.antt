@@ -1,7 +1,8 @@
 -- What reading a source to its end does and answers.
 --
 -- IsWhole new before now limit bytes v     == v is the bytes that were taken, at most the limit, and nothing is left
--- EndsEarly limit count before now e       == why the reads stopped after count bytes, before the end
+-- EndsEarly limit count before now e       == why the reads stopped after count bytes without an answer: one byte too many, a
+--                                             failed read, or want of memory
 -- Takes old new before now limit r         == the reads took some bytes from the front of old, and r says how it ended
 use Rattle.std.specs.Prelude.{◌≡◌, ℕ, ◌+◌, ◌≤◌, List, length, Option, Result, MatchResult, vec_items}
 use Rattle.std.specs.Global.{Vec}

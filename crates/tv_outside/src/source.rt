@@ -18,7 +18,7 @@ pub trait Source {
 
     /// Puts the next bytes at the front of `buf` and answers how many they are.
     ///
-    /// It answers 0 to a buffer that is not empty only at the end.
+    /// It answers 0 to a buffer that is not empty only at the end. What the buffer holds after a failed read is not said.
     fn read(&mut self, buf: &mut [u8]) -> Result<usize, Failed>
         ensures bound { ReadsAtMost result buf.new }
         ensures bytes { ReadConsumes (left self.old) (left self.new) result buf.new }

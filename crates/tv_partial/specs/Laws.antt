@@ -1,6 +1,7 @@
 -- What is true of partial configurations, as laws.
 --
 -- PartialSign   == the sign of a partial configuration is that of its class and Euler characteristic
+-- IsWholeSum w  == over all corners of the web that is so
 -- WholeIsPartial == over all corners no edge is pending, and the partial count is the signed count with all open edges
 --                  empty
 use Rattle.std.specs.Prelude.{◌≡◌, ℤ, List, [], ℕ, length}

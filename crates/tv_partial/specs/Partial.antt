@@ -2,11 +2,14 @@
 --
 -- is_met t e        == one of the edge's two corners is among the first t
 -- is_pending t e    == exactly one of them is
+-- no_edge           == what stands for an edge past the last
 -- pending w t       == the numbers of the pending edges, rising
+-- is_empty rows     == the diagram has no cell
 -- rests_on t es a   == the assignment has the empty diagram on every edge that is not met
 -- chosen t es a     == the diagrams of the assignment on the pending edges, in their order
 -- first_legs w t a  == the legs of the first t corners
 -- partial_boxes_left w t a n == how many boxes bring the assignment to the Euler characteristic n over these corners
+-- partial_on w t a n == the configurations with that assignment over these corners, of Euler characteristic n
 -- partial_configurations w t v n == a diagram for each compact edge, empty where it is not met, and extras at each of
 --                      the first t corners, of class v and Euler characteristic n, in the order of configurations
 -- partial_chi w t c == the Euler characteristic: edge costs, and boxes, less the overlap costs of the first t corners

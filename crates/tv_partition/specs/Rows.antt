@@ -1,12 +1,17 @@
 -- Diagrams as their rows.
 --
 -- IsDiagram rows == the rows fall weakly and none is 0
+-- FallsFrom top rows == so do they, below one of that length
 -- size rows      == the number of cells
 -- IsSmall rows   == a diagram of at most 24 cells
 -- has rows i j   == the cell (i, j) is in the diagram: j is below row i
 -- reach rows     == the least number that no entry of a cell reaches
 -- column rows j  == the number of rows longer than j
+-- longer j row   == 1 where the row is longer than j, else 0
+-- columns rows j n == the columns from j on, n of them
 -- flipped rows   == the rows of the diagram with the two entries of each cell exchanged
+-- down_from n    == n, n - 1, .., 1
+-- diagrams_within k top n == the diagrams of n cells in at most k rows, none longer than top
 -- diagrams n     == every diagram of n cells, each once; of two rows at the first place where they differ the greater
 --                   comes first
 use Rattle.std.specs.Prelude.{ℕ, zero, suc, ◌+◌, ◌-◌, ◌<◌, ◌≤◌, min, max, Bool, cond, List, [], ◌∷◌, map, length, slice_index, nat_lt, ⊤}

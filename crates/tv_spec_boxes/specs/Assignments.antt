@@ -9,12 +9,16 @@
 -- all_legs w a fixed == the legs of each corner, in the order of corners
 -- zeros n            == n zeros
 -- plus, times        == sum of two vectors, and whole multiple of one
+-- class_on w es a    == the sum over these edges of size times class
 -- class_of w a       == the sum over the compact edges of size times class
--- edge_costs w a     == the sum over the compact edges of the edge cost of the diagram
--- edge_twist w a     == the sum over the compact edges of the normal degree at a times the size
+-- costs_on, edge_costs w a == the sum over the edges, over the compact edges, of the edge cost of the diagram
+-- twist_on, edge_twist w a == the sum over the edges, over the compact edges, of the normal degree at a times the size
 -- overlaps_of legs   == the sum of the overlap costs of the corners
--- assignments w d    == the assignments of degree at most d, each once, in order: by the diagrams in the order of
---                       edges, of two diagrams the one of fewer cells first, then the one with the greater row first
+-- weight g           == a positive degree as a natural number; 0 where it is not positive
+-- choices gs d       == one diagram for each degree, sizes times degrees adding up to at most d; of two diagrams the one of
+--                       fewer cells first, then the one with the greater row first
+-- assignments w d    == the assignments of degree at most d, each once, in order, by the diagrams in the order of edges:
+--                       of a web in which every compact edge has a degree of at least 1
 -- same_vector u v    == the two vectors are equal
 -- assignments_of w v == the assignments of class v
 use Rattle.std.specs.Prelude.{ℕ, zero, suc, ◌+◌, ◌-◌, ◌*◌, ℤ, pos, negsuc, ◌+ℤ◌, ◌*ℤ◌, List, [], ◌∷◌, map, filter, length, slice_index_or, Bool, true, false, ◌&&◌, nat_le}

@@ -3,6 +3,7 @@
 -- IsClass w d v       == some assignment of degree at most d has the class v
 -- EntriesBefore u v   == at the first entry where the vectors differ, that of u is the lesser
 -- IsBefore hs u v     == u has the lesser degree, or the same degree and the lesser entries
+-- ClassesRise hs vs   == each class is before the next one
 -- AreClasses w d vs   == every class that some assignment of degree at most d has, each once, in order
 use Rattle.std.specs.Prelude.{◌≡◌, ◌⊎◌, Contains, ℕ, ℤ, ◌<ℤ◌, List, [], ◌∷◌, ⊤}
 use Rattle.std.specs.List.{AllByRecursion}

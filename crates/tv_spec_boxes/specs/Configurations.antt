@@ -1,9 +1,12 @@
 -- Box configurations and their signed count.
 --
 -- Configuration       == a diagram for each compact edge, and extras at each corner
+-- extras_of legs side i == the sets of i extras from the cube of that side plus the extent
 -- fillings legs side n == a set of extras at each corner, n boxes in all, each from the cube of that side plus the
 --                        corner's extent; of two sets the one of fewer boxes first, then by the cells
+-- fillings_of legs n  == those with n boxes from cubes of side n; none where n is below 0
 -- boxes_left w fixed a n == how many boxes bring the assignment to the Euler characteristic n
+-- configuration a extras == the configuration of both
 -- configurations_on w fixed a n == the configurations with that assignment and Euler characteristic
 -- configurations w fixed v n == the configurations of class v and Euler characteristic n, each once, in order: by the
 --                        diagrams in the order of edges, then by the extras in the order of corners

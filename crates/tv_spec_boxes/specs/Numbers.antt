@@ -1,9 +1,13 @@
 -- The numbers of configurations that bound every coefficient.
 --
+-- falls_on w es a    == the sum of min(0, edge cost) over the edges
 -- low_of w fixed a   == the sum of min(0, edge cost) over the compact edges less the overlap costs
 -- least f xs         == the least of 0 and of f over the list
 -- lowest w fixed d   == the least low over the assignments of degree at most d
+-- as_natural z       == z, or 0 where it is below 0
 -- box_bound n low    == max(0, n - 2 low)
+-- sum_of f xs        == the sum of f over the list
+-- crowd_on legs n    == the number of fillings of these corners with at most n boxes
 -- crowd w fixed d n v == the number of configurations of class v with at most max(0, n - 2 lowest) boxes in all; 0
 --                       where the degree of v is below 0 or above d
 use Rattle.std.specs.Prelude.{ℕ, suc, ◌+◌, ℤ, pos, negsuc, ◌+ℤ◌, ◌-ℤ◌, List, [], ◌∷◌, length, cond, ◌&&◌, int_le}

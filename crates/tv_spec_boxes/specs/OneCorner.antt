@@ -1,5 +1,6 @@
 -- Webs of one triangle.
 --
+-- NamesAll t    == the triangle names 0, 1 and 2
 -- IsOneCorner w == three points, one unimodular triangle on them, and a height for each
 -- empty_legs    == no leg has a cell
 -- with_sign even n == n where even holds, else -n

@@ -3,6 +3,7 @@
 -- sides t            == the three sides, in the order of the points
 -- edges ts           == the sides of all triangles
 -- back s             == the segment in the other direction
+-- IsListed ps t      == the triangle names listed points
 -- IsTurned ps t      == the triangle names listed points and has the turn 1: it is unimodular and counter-clockwise
 -- AreTurned ps ts    == all triangles are
 -- IsMatched hull ts  == no directed edge stands twice; the back of each is an edge, or it is itself a hull segment; each

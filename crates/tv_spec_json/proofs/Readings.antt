@@ -1,7 +1,6 @@
 -- A value spells at most one web.
 use Rattle.std.proofs.Common.{◌≡◌, ℕ, ℤ, pos, negsuc, List, [], ◌∷◌, refl, sym, ◌∙◌, ap}
-use Rattle.serde_json.specs.Data.{Data, number, Items}
-use Rattle.serde_json.specs.Find.{of_integer}
+use Rattle.serde_json.specs.Data.{Data}
 use Rattle.tv_spec_plane.specs.declared.records.RawPoint.{RawPoint}
 use Rattle.tv_spec_plane.specs.declared.records.Triple.{Triple}
 use Rattle.tv_spec_plane.specs.Web.{Web}

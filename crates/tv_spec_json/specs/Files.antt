@@ -2,7 +2,7 @@
 -- the order of its codes, and a number without fraction and exponent that 64 bits hold is a whole number.
 --
 -- whole z          == the value of a whole number
--- values f xs      == the array of the values f x
+-- items, values f xs == the array of the values f x
 -- point_value p    == the array of the two coordinates
 -- triangle_value t == the array of the three numbers of points
 -- file_value w     == the object that spells a web: its heights, its points, its triangles, and `tv` 1

@@ -5,7 +5,10 @@
 -- IsGeneric ps p  == p lies on no line through two distinct listed points
 -- IsHullPair ps a b == distinct listed points such that every listed point is on their left or on their line
 -- IsInHull ps p   == p is strictly left of each such pair
+-- IsLeft a b c p  == p is strictly left of all three sides
 -- IsInTriangle ps t p == p is strictly on the inner side of all three sides of t
+-- triangle_at ts i == triangle i of the list
+-- IsInOnly ps ts p i == p is in triangle i and in no other
 -- Tiles ps ts     == each generic rational point in the hull is in exactly one triangle, and no other generic
 --                    rational point is in any
 use Rattle.std.specs.Prelude.{◌≡◌, ◌≢◌, ℕ, ◌<◌, ℤ, pos, ◌-ℤ◌, ◌*ℤ◌, ◌≤ℤ◌, ◌<ℤ◌, ◌⊎◌, List, length, slice_index_or}

@@ -1,18 +1,25 @@
 -- A web: listed points, triangles and heights, and what its edges, corners, classes, degrees and signs are.
 --
 -- Web              == points, triangles and heights
+-- numbers_from k n == k, k + 1, .., n numbers
 -- below n          == 0, 1, .., n - 1
 -- pairs n          == the pairs a < b below n, in order
 -- has t a          == a is a point of triangle t
 -- opposite t a b   == the point of t beside a and b
 -- owners w a b     == the numbers of the triangles that have both points, rising
+-- compact_edge a b c t d u == the edge of a and b with the opposite points c of triangle t and d of u, in rising order
+-- compact_by, outer_by == the edge, where its triangles are two, where there is one
 -- compact w        == the compact edges, those of two triangles, in order of their points
 -- outer w          == the open edges, those of one triangle, in order of their points
+-- place_of test xs == the first place at which the test holds, or the length
 -- edge_ref w a b   == the place of the edge of a and b in one of the two lists
+-- rising a b c     == the three in rising order
+-- corner_on w p    == the corner of three points in rising order, with its edges
 -- corner_of w t    == a triangle with its points in rising order and its edges
 -- corners w        == the corners, in the order of triangles
 -- edge_ratio w e   == the r of the edge rule c + d = p a + r b with p + r = 2
 -- normal_a, normal_b == the normal degrees, -p at a and -r at b
+-- class_entry w e k == the intersection number of the edge with point k
 -- edge_class w e   == the intersection numbers of the edge with all points: 1 at c and d, the normal degrees at a and b
 -- degree_of hs v   == the sum of height times entry
 -- edge_degree w e  == the degree of the edge's class

@@ -1,5 +1,6 @@
 -- Worked texts: the configurations of two boxes at one corner, the integers of the conifold through degree 2, grids, a
 -- summary, a verdict and the lines of refusals.
+use Rattle.std.proofs.Common.{arith}
 use Rattle.std.specs.Prelude.{◌≡◌, ℤ, pos, negsuc, List, [], ◌∷◌, codes, refl}
 use Rattle.std.specs.Fmt.{digits}
 use Rattle.tv_spec_plane.specs.Plane.{turn}
@@ -11,11 +12,11 @@ use Rattle.tv_cells.specs.Costs.{row_cost, rows_cost, overlap_cost, overlaps}
 use Rattle.tv_spec_boxes.specs.Assignments.{assignments, choices}
 use Rattle.tv_spec_boxes.specs.Configurations.{fillings}
 use Rattle.tv_spec_text.specs.Lines.{line_text}
-use Rattle.tv_spec_text.specs.Reports.{Term}
+use Rattle.tv_spec_text.specs.Reports.{Term, Section}
 use Rattle.tv_spec_reports.specs.Integers.{GvSection, gv_text}
 use Rattle.tv_spec_reports.specs.Boxes.{boxes_text}
 use Rattle.tv_spec_reports.specs.Grids.{grid_text}
-use Rattle.tv_spec_reports.specs.Summaries.{summary_text}
+use Rattle.tv_spec_reports.specs.Summaries.{Summary, IsSummary, summary_text}
 use Rattle.tv_spec_reports.specs.Verdicts.{verdict_text, differs_line}
 
 two_boxes : boxes_text one_corner (pos 0 ∷ pos 0 ∷ pos 0 ∷ []) (pos 2) ≡ codes "report boxes\nheights 0 0 0\nchi 2\nclass 0 0 0 0\nsign 1\nconfig\nbox 0 1 0 0\nbox 0 0 0 0\nconfig\nbox 0 0 0 0\nbox 0 0 0 1\nconfig\nbox 0 0 0 0\nbox 0 0 1 0\nend\n"
@@ -40,6 +41,20 @@ conifold_report = refl
 unit_grid : grid_text 1 ≡ codes "tv 1\npoint 0 0\npoint 1 0\npoint 0 1\npoint 1 1\ntriangle 0 1 3\ntriangle 0 3 2\nheights 0 1 1 1\nend\n"
 unfolding line_text digits
 unit_grid = refl
+
+-- the full series of the unit grid through degree 1 and exponent 4
+unit_grid_sections : List Section
+unit_grid_sections =
+    record { degree = pos 0; entries = pos 0 ∷ pos 0 ∷ pos 0 ∷ pos 0 ∷ []; terms = term (pos 0) (pos 1) ∷ term (pos 1) (negsuc 1) ∷ term (pos 2) (pos 7) ∷ term (pos 3) (negsuc 17) ∷ term (pos 4) (pos 47) ∷ [] }
+    ∷ record { degree = pos 1; entries = negsuc 0 ∷ pos 1 ∷ pos 1 ∷ negsuc 0 ∷ []; terms = term (pos 1) (pos 1) ∷ term (pos 2) (negsuc 3) ∷ term (pos 3) (pos 14) ∷ term (pos 4) (negsuc 41) ∷ [] }
+    ∷ []
+
+unit_grid_summary : Summary
+unit_grid_summary = record { grid = 1; degree = 1; upto = pos 4; classes = 2; terms = 9; zero = pos 47; sum = 4 }
+
+unit_grid_is_summary : IsSummary unit_grid_sections unit_grid_summary
+unfolding unit_grid_sections unit_grid_summary term
+unit_grid_is_summary = record { classes = refl; terms = refl; zero = refl; least = omega arith; multiple = pos 0; sum = refl }
 
 grid_summary : summary_text (record { grid = 2; degree = 1; upto = pos 2; classes = 9; terms = 19; zero = pos 52; sum = 999999980 }) ≡ codes "report summary\ngrid 2\ndegree 1\nupto 2\nclasses 9\nterms 19\nzero 52\nsum 999999980\nend\n"
 unfolding line_text digits

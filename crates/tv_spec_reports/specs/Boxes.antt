@@ -1,5 +1,6 @@
 -- The report of box configurations, one by one.
 --
+-- numbers rows     == the spellings of the rows
 -- leg_line e rows  == the line `leg A B R0 R1 ..` of a compact edge with its diagram
 -- leg_lines es a   == such a line for each edge whose diagram isn't empty
 -- box_line t c     == the line `box T X Y Z`

@@ -1,15 +1,16 @@
 -- The grammar in which a report of integers is read back, by how such a report is spelled.
 --
 -- GvData          == heights, degree, order, and the sections of a report
--- IsWideNumber z  == other than 0 and at most 2^127 - 1 in absolute value
+-- IsWideValue z   == other than 0 and at most 2^127 - 1 in absolute value
 -- GvTermFits N t, IntegerFits i == the numbers of a term line and of an integer line
--- TermsRise, GeneraRise == exponents rise, genera rise
--- FirstSection s  == class zero: degree 0, all entries 0, one term with 1 at exponent 0, and no integer
+-- GeneraRise is   == genera rise
+-- FirstSection heights s == class zero: degree 0, all entries 0, one term with 1 at exponent 0, and no integer
 -- SectionFits d s == as many entries as heights, each a number, the degree by the heights, from 1 to D
+-- SectionsFit d ss == the first section is that of class zero, and each further one fits
 -- GvFits d        == what the grammar asks of the data; classes stand in their order
 -- SpellsGv ls d   == the lines spell that report
 -- IsGv ls         == the lines spell some report
-use Rattle.std.specs.Prelude.{◌≡◌, ◌≢◌, ◌≤◌, ◌<◌, ◌-◌, ◌^◌, ℕ, ℤ, pos, ◌≤ℤ◌, ◌<ℤ◌, List, [], ◌∷◌, length, map, unsigned_abs, ⊤}
+use Rattle.std.specs.Prelude.{◌≡◌, ◌≢◌, ◌≤◌, ◌<◌, ◌-◌, ◌^◌, ℤ, pos, ◌≤ℤ◌, List, [], ◌∷◌, length, map, unsigned_abs, ⊤}
 use Rattle.std.specs.List.{AllByRecursion}
 use Rattle.tv_spec_plane.specs.Web.{degree_of}
 use Rattle.tv_spec_boxes.specs.Assignments.{zeros}
@@ -24,18 +25,18 @@ pub record GvData : Type 0 where
   pub upto : ℤ
   pub sections : List GvSection
 
-pub record IsWideNumber (z : ℤ) : Type 0 where
+pub record IsWideValue (z : ℤ) : Type 0 where
   pub other : z ≢ pos 0
   pub within : unsigned_abs z ≤ 2 ^ 127 - 1
 
 pub record GvTermFits (N : ℤ) (t : Term) : Type 0 where
   pub exponent : IsNumber t.exponent
   pub within : t.exponent ≤ℤ N
-  pub coefficient : IsWideNumber t.coefficient
+  pub coefficient : IsWideValue t.coefficient
 
 pub record IntegerFits (i : GenusValue) : Type 0 where
   pub genus : IsCount i.genus
-  pub value : IsWideNumber i.value
+  pub value : IsWideValue i.value
 
 abbrev pub GeneraRise : List GenusValue → Type 0
 GeneraRise [] = ⊤

@@ -2,8 +2,10 @@
 --
 -- over_square n f  == f x y for x and y below n, by y, then x
 -- place k x y      == the number of the point (x, y)
+-- grid_point x y   == that point
 -- grid_points k    == the points (x, y) with x and y from 0 to k
--- squares k        == for each unit square the triangle below its diagonal from (x, y) to (x + 1, y + 1) and that above it
+-- lower k x y, upper k x y == the triangles of the unit square at (x, y), below and above its rising diagonal
+-- squares k        == these two for each unit square, by y, then x
 -- grid_height x y  == x x + y y - x y
 -- grid k           == the web of these points, triangles and heights
 -- grid_text k      == its text

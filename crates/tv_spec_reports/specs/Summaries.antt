@@ -3,9 +3,13 @@
 -- Summary        == the grid's number, degree and order; how many classes and terms the report of the full series has; the
 --                   coefficient of class zero at the order; and the sum of all coefficients modulo 1000000007
 -- terms_in ss, sum_in ss == the number of terms of the sections, and the sum of their coefficients
--- is_summary_of  == a summary counts and sums these sections
+-- sum_of_terms ts == the sum of the coefficients of these terms
+-- value_at n ts  == the coefficient at the exponent n, 0 where no term has it
+-- zero_in n ss   == that of the first section, which is class zero
+-- IsSummary ss s == the summary counts and sums these sections, and has class zero's coefficient at its order
 -- summary_lines, summary_text == its lines, its text
-use Rattle.std.specs.Prelude.{◌≡◌, ℕ, ◌+◌, ◌<◌, ℤ, pos, ◌+ℤ◌, ◌*ℤ◌, List, [], ◌∷◌, length, codes}
+use Rattle.std.specs.Prelude.{◌≡◌, ℕ, ◌+◌, ◌<◌, ℤ, pos, ◌+ℤ◌, ◌*ℤ◌, List, [], ◌∷◌, length, codes, cond}
+use Rattle.std.specs.Ordering.{int_eq}
 use Rattle.tv_spec_text.specs.Lines.{Line, text_of, spelled}
 use Rattle.tv_spec_text.specs.Reports.{Term, Section}
 
@@ -30,10 +34,19 @@ abbrev pub sum_in : List Section → ℤ
 sum_in [] = pos 0
 sum_in (s ∷ ss) = sum_of_terms s.terms +ℤ sum_in ss
 
+abbrev pub value_at : ℤ → List Term → ℤ
+value_at n [] = pos 0
+value_at n (t ∷ ts) = cond (int_eq t.exponent n) t.coefficient (value_at n ts)
+
+abbrev pub zero_in : ℤ → List Section → ℤ
+zero_in n [] = pos 0
+zero_in n (s ∷ ss) = value_at n s.terms
+
 -- the least remainder
 pub record IsSummary (ss : List Section) (s : Summary) : Type 0 where
   pub classes : s.classes ≡ length ss
   pub terms : s.terms ≡ terms_in ss
+  pub zero : s.zero ≡ zero_in s.upto ss
   pub least : s.sum < 1000000007
   pub multiple : ℤ
   pub sum : sum_in ss ≡ pos s.sum +ℤ (multiple *ℤ pos 1000000007)

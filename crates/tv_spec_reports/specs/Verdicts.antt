@@ -3,7 +3,7 @@
 -- verdict_lines, verdict_text == the report that says yes
 -- differs_line n series product v == the first place where product and series differ, with both values
 -- spread_line n v, majorant_line n v == a number that is too wide, at an exponent of a class
--- report_lines   == the two refusals of a report: too long, and the first line outside its grammar
+-- long_report_line, report_line n == the refusals of a report: too long, and the first line outside its grammar
 use Rattle.std.specs.Prelude.{ℕ, ℤ, pos, List, [], ◌∷◌, map, codes}
 use Rattle.tv_spec_text.specs.Lines.{Line, text_of, spelled}
 

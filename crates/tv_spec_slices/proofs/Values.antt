@@ -1,14 +1,14 @@
 -- Worked values of slices and of paths.
-use Rattle.std.specs.Prelude.{◌≡◌, ℕ, pos, negsuc, List, [], ◌∷◌, map, filter, refl}
+use Rattle.std.specs.Prelude.{◌≡◌, ℕ, pos, negsuc, List, [], ◌∷◌, map, true, false, refl}
 use Rattle.tv_cells.specs.declared.legs.Legs.{Legs}
-use Rattle.tv_spec_slices.specs.Slices.{Shape, interlaces, completion}
-use Rattle.tv_spec_slices.specs.Paths.{columns, fitting, shape, ways, paths}
+use Rattle.tv_spec_slices.specs.Slices.{completion}
+use Rattle.tv_spec_slices.specs.Paths.{columns, fitting, shape, ways, paths, next_of, is_entry}
 
 abbrev legs_of : List ℕ → List ℕ → List ℕ → Legs
 legs_of x y z = record { along_x = x; along_y = y; along_z = z }
 
 -- the neighbours at diagonal 0 of the empty slice at -1, with at most two extras
-empty_neighbours : filter (interlaces (negsuc 0) (shape 0 [])) (fitting (legs_of [] [] []) (pos 0) 2) ≡ shape 0 [] ∷ shape 0 (1 ∷ []) ∷ shape 0 (2 ∷ []) ∷ []
+empty_neighbours : next_of (legs_of [] [] []) (negsuc 0) (shape 0 []) 2 ≡ shape 0 [] ∷ shape 0 (1 ∷ []) ∷ shape 0 (2 ∷ []) ∷ []
 unfolding columns
 empty_neighbours = refl
 
@@ -38,3 +38,12 @@ one_leg_y = refl
 three_legs : map (paths (legs_of (1 ∷ []) (1 ∷ []) (1 ∷ [])) 2) (0 ∷ 1 ∷ 2 ∷ []) ≡ 1 ∷ 3 ∷ 9 ∷ []
 unfolding columns ways paths
 three_legs = refl
+
+-- the entries of the middle diagonal with one box at most, beside no leg: the empty slice at no cost, one box at cost 1
+middle_entries : map (λ s. map (is_entry (legs_of [] [] []) 1 (pos 0) s) (0 ∷ 1 ∷ [])) (fitting (legs_of [] [] []) (pos 0) 1) ≡ (true ∷ false ∷ []) ∷ (false ∷ true ∷ []) ∷ []
+unfolding columns ways
+middle_entries = refl
+
+-- a slice that does not fit is none
+unfit_entry : is_entry (legs_of [] [] (1 ∷ [])) 1 (pos 0) (shape 0 (5 ∷ [])) 0 ≡ false
+unfit_entry = refl

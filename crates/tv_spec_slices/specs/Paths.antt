@@ -1,22 +1,32 @@
 -- Paths of interlacing slices.
 --
 -- full_of legs t n    == how many of the first n places of slice t lie in the leg along z, from the front
--- columns legs t d n top m == the lists of heights from place d on, at most n of them, none above top, with m extras; a
---                        greater height comes first
+-- down n              == n, n - 1, .., 0
+-- columns legs t d n top m == the falling lists of heights from place d on, each at least as high as the legs there, at most
+--                        n of them, none above top, with m extras; a greater height comes first
+-- shape full hs       == the slice of both
+-- fitting_from legs t full m == the slices at t with that many places without end and m extras beyond them
 -- fitting_by legs t m == the slices at t that fit the legs and have m extras
 -- fitting legs t k    == those with at most k extras
 -- diagonal_at first n == the diagonal first + n
+-- total f xs          == the sum of f over the list
 -- ways legs k first n s c == in how many ways slices that fit, with at most k extras each, can be chosen from the diagonal
 --                        first up to slice s at first + n, such that neighbours interlace, the first slice is that of the
---                        legs alone, and the extras of all of them number c
+--                        legs alone, and the extras of all of them number c; s is taken as it is, and must fit
+-- paths_from legs k far i == the number of paths from the diagonal -far to far, as below
 -- paths legs k i      == the number of paths from the diagonal -(k + extent) to k + extent whose two outermost slices are
---                        those of the legs alone and whose slices have i extras in all
-use Rattle.std.specs.Prelude.{ℕ, zero, suc, ◌+◌, ◌-◌, ◌*◌, ℤ, pos, ◌+ℤ◌, neg_ℤ, List, [], ◌∷◌, ◌++◌, map, filter, Bool, cond, ◌&&◌, nat_eq, nat_lt, nat_le}
+--                        those of the legs alone and whose slices have i extras in all, for i at most k
+-- next_of legs t a budget == the slices at t + 1 that fit, have at most that many extras, and interlace with a at t
+-- start_for legs k t  == the diagonal from which the ways up to t are counted
+-- ways_at legs k t s c == the ways up to slice s at t
+-- is_entry legs k t s c == s fits at t, some ways lead up to it with c extras, and its least completion keeps within k
+use Rattle.std.specs.Prelude.{ℕ, zero, suc, ◌+◌, ◌-◌, ◌*◌, ℤ, pos, ◌+ℤ◌, ◌-ℤ◌, neg_ℤ, unsigned_abs, List, [], ◌∷◌, ◌++◌, map, filter, Bool, cond, ◌&&◌, nat_eq, nat_lt, nat_le}
 use Rattle.std.specs.List.{flat_map}
+use Rattle.std.specs.Int.{int_min}
 use Rattle.tv_cells.specs.declared.legs.Legs.{Legs}
 use Rattle.tv_cells.specs.Cells.{below}
 use Rattle.tv_cells.specs.Extras.{extent}
-use Rattle.tv_spec_slices.specs.Slices.{Shape, interlaces, base_at, is_endless, extras_of}
+use Rattle.tv_spec_slices.specs.Slices.{Shape, interlaces, base_at, is_endless, fits, extras_of, completion}
 
 abbrev pub full_of : Legs → ℤ → ℕ → ℕ
 full_of legs t zero = 0
@@ -62,3 +72,15 @@ paths_from legs k far i = total (λ s. ways legs k (neg_ℤ (pos far)) (2 * far)
 
 unfoldable pub paths : Legs → ℕ → ℕ → ℕ
 paths legs k i = paths_from legs k (k + extent legs) i
+
+abbrev pub next_of : Legs → ℤ → Shape → ℕ → List Shape
+next_of legs t a budget = filter (interlaces t a) (fitting legs (t +ℤ pos 1) budget)
+
+abbrev pub start_for : Legs → ℕ → ℤ → ℤ
+start_for legs k t = int_min t (neg_ℤ (pos (k + extent legs)))
+
+abbrev pub ways_at : Legs → ℕ → ℤ → Shape → ℕ → ℕ
+ways_at legs k t s c = ways legs k (start_for legs k t) (unsigned_abs (t -ℤ start_for legs k t)) s c
+
+abbrev pub is_entry : Legs → ℕ → ℤ → Shape → ℕ → Bool
+is_entry legs k t s c = fits legs t s && (nat_le (c + completion legs t s) k && nat_lt 0 (ways_at legs k t s c))

@@ -1,18 +1,21 @@
 -- The slices of a corner: slice t holds the cells with x - y = t, a column of cells at each place of that diagonal.
 --
 -- Shape             == the number of places at its front whose column has no end, and the heights of the further columns
--- at s d            == the height at place d, 0 past the last one
+-- at s d            == the height at place d, 0 past the last one; it says nothing at a place without end
 -- reach s           == the number of places up to the last column
 -- covers a d b e    == the column of a at d is at least as high as that of b at e; one without end is higher than every
 --                      finite one, and as high as another without end
 -- all_below n test  == the test holds for 0, 1, .., n - 1
+-- interlaces_at t a b d == so at place d
 -- interlaces t a b  == slice a at t and slice b at t + 1 interlace: a(d) >= b(d) >= a(d + 1) for t from 0 on, and
 --                      b(d) >= a(d) >= b(d + 1) below
--- base legs x y     == the height at (x, y) of the legs along x and y
+-- base legs x y, base_at legs t d == the height of the legs along x and y at (x, y), and at place d of slice t
 -- is_endless legs t d == place d of slice t lies in the leg along z
+-- fits_at legs t s d == place d of slice t is as the legs ask
 -- fits legs t s     == the heights fall and none is 0; exactly the places in the leg along z have no end, and each other
 --                      column is at least as high as the legs there
--- over legs t h d   == by how much a column of height h at place d of slice t is higher than the legs
+-- over legs t h d   == by how much a column of height h at place d of slice t is higher than the legs; 0 in the leg along z
+-- sum_below n f     == f 0 + f 1 + .. + f (n - 1)
 -- extras_of legs t s == the number of extras of the slice
 -- completion legs t s == the number of extras on the diagonals above t, where at (x, y) stands the greater of the height of
 --                      the legs and the height of the slice at (x, x - t): the least that completes it
@@ -72,6 +75,6 @@ sum_below (suc n) f = sum_below n f + f n
 abbrev pub extras_of : Legs → ℤ → Shape → ℕ
 extras_of legs t s = sum_below (reach s) (λ d. over legs t (at s d) d)
 
--- the cells (x, y) with y below x - t, diagonal by diagonal above t, at the x of place d
+-- for each place the cells (x, y) with its x and with y below x - t, which are those above diagonal t
 abbrev pub completion : Legs → ℤ → Shape → ℕ
 completion legs t s = sum_below (reach s) (λ d. sum_below (d + y_from t) (λ y. cond (has legs.along_z (d + x_from t) y) 0 (at s d - base legs (d + x_from t) y)))

@@ -1,7 +1,8 @@
 -- The grammar of files, by how a web is spelled.
 --
+-- first_line, point_line p, triangle_line t, heights_line hs, end_line == the lines of a file
 -- file_lines w  == the lines that spell a web: `tv 1`, a line for each point, a line for each triangle, the heights, `end`
--- Fits w        == each number has a spelling of at most nine digits
+-- PointFits p, TriangleFits t, Fits w == each number has a spelling of at most nine digits
 -- Spells ls w   == the lines spell that web
 -- IsFile ls     == the lines spell some web
 use Rattle.std.specs.Prelude.{◌≡◌, ℤ, pos, List, [], ◌∷◌, ◌++◌, map, codes}

@@ -1,5 +1,7 @@
 -- Words, lines and numbers.
 --
+-- Word             == the codes of a word
+-- Line             == the words of a line
 -- words line       == the parts of a line between its spaces, each space ending one
 -- word_lines bytes == the words of each line; a line ends with LF, with CR LF, or with the end of the bytes
 -- line_text ws     == the words, a space between two of them, and LF

@@ -2,7 +2,11 @@
 --
 -- Term            == an exponent and its coefficient
 -- Section         == a class by its degree and entries, and the terms of its series
+-- Rises ts        == exponents rise
+-- IsAmong n ts    == some term has the exponent n
+-- IsTerm f upto t == the exponent is at most upto, and the coefficient is the value of f there, and not 0
 -- AreTerms f upto ts == the exponents through upto at which f isn't 0, rising, each with the value of f
+-- term_line t, class_line s == the line of a term, of a class
 -- section_lines s == a line for the class and a line for each term
 -- series_lines title heights degree upto ss == the lines of the report whose first line is `report series TITLE`
 -- series_text     == the text of those lines

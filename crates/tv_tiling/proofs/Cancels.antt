@@ -4,26 +4,8 @@ use Rattle.std.specs.Prelude.{◌≡◌, ℤ, pos, ◌+ℤ◌, neg_ℤ, ◌⊎�
 use Rattle.std.proofs.Common.{refl, ap, sym, subst, ◌∙◌, arith, inl, inr}
 use Rattle.std.proofs.lemmas.Int.{ints}
 use Rattle.tv_spec_hull.specs.Members.{Among, Once}
+use Rattle.tv_spec_hull.proofs.Members.{among-append, append-among_left, append-among_right, once-append}
 use Rattle.tv_lemmas.proofs.Sums.{sum_of, sum_of-append, sum_of-map, sum_of-neg}
-
-pub among-append : {A : Type 0} (z : A) (xs ys : List A) → Among z (xs ++ ys) → Among z xs ⊎ Among z ys
-among-append z [] ys m = inr m
-among-append z (x ∷ xs) ys (inl e) = inl (inl e)
-among-append z (x ∷ xs) ys (inr m) = elim (among-append z xs ys m) [ inl h ↦ inl (inr h) | inr h ↦ inr h ]
-
-pub append-among_left : {A : Type 0} (z : A) (xs ys : List A) → Among z xs → Among z (xs ++ ys)
-append-among_left z [] ys m = elim m [ ]
-append-among_left z (x ∷ xs) ys (inl e) = inl e
-append-among_left z (x ∷ xs) ys (inr m) = inr (append-among_left z xs ys m)
-
-pub append-among_right : {A : Type 0} (z : A) (xs ys : List A) → Among z ys → Among z (xs ++ ys)
-append-among_right z [] ys m = m
-append-among_right z (x ∷ xs) ys m = inr (append-among_right z xs ys m)
-
-pub once-append : {A : Type 0} (xs ys : List A) → Once xs → Once ys → ((z : A) → Among z xs → Among z ys → ⊥) → Once (xs ++ ys)
-once-append [] ys once_xs once_ys apart = once_ys
-once-append (x ∷ xs) ys once_xs once_ys apart =
-    (λ m. elim (among-append x xs ys m) [ inl h ↦ once_xs.0 h | inr h ↦ apart x (inl refl) h ], once-append xs ys once_xs.1 once_ys (λ z h k. apart z (inr h) k))
 
 -- a list of sums without its member x
 record IsRest {A : Type 0} (f : A → ℤ) (x : A) (ys zs : List A) : Type 0 where

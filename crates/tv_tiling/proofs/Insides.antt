@@ -9,7 +9,8 @@ use Rattle.tv_spec_plane.specs.Plane.{Point, at, turn}
 use Rattle.tv_spec_plane.specs.Tiling.{Rational, side, IsGeneric, IsInHull, IsLeft, IsInTriangle}
 use Rattle.tv_spec_hull.specs.Edges.{IsTurned}
 use Rattle.tv_lemmas.proofs.Signs.{nonneg-positive, mul-nonneg-nonneg, positive, positive-true, true-positive}
-use Rattle.tv_tiling.proofs.Turns.{side-sum, side-spread, turn-exchange}
+use Rattle.tv_spec_hull.proofs.Turns.{turn-exchange}
+use Rattle.tv_tiling.proofs.Turns.{side-sum, side-spread}
 
 unfoldable pub inside : List Point → Rational → Triple → Bool
 inside ps p t = positive (side (at ps t.c) (at ps t.a) p) && (positive (side (at ps t.a) (at ps t.b) p) && positive (side (at ps t.b) (at ps t.c) p))

@@ -5,7 +5,7 @@ use Rattle.std.proofs.Common.{arith, inl, inr}
 use Rattle.tv_spec_hull.specs.Members.{Among, Once}
 use Rattle.std.proofs.lemmas.Int.{ints}
 use Rattle.tv_lemmas.proofs.Signs.{sign}
-use Rattle.tv_tiling.proofs.Cancels.{among-append, append-among_left, append-among_right, once-append}
+use Rattle.tv_spec_hull.proofs.Members.{among-append, append-among_left, append-among_right, once-append}
 
 pub all-at : {A : Type 0} (P : A → Type 0) (xs : List A) (d : A) → AllByRecursion P xs → (i : ℕ) → i < length xs → P (slice_index_or xs i d)
 all-at P [] d all i h = absurd (omega arith)

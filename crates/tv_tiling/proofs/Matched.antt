@@ -12,7 +12,8 @@ use Rattle.tv_lemmas.proofs.Signs.{same-by_order, sign, positive, positive-true,
 use Rattle.tv_lemmas.proofs.Sums.{sum_of, sum_of-append, sum_of-flat_map, sum_of-all, bit, bits-one}
 use Rattle.tv_tiling.specs.Points.{AreSmall, IsSpread}
 use Rattle.tv_tiling.specs.Laws.{MatchedTrianglesTile}
-use Rattle.tv_tiling.proofs.Cancels.{append-among_left, append-among_right, sum_of-cancels}
+use Rattle.tv_spec_hull.proofs.Members.{append-among_left, append-among_right}
+use Rattle.tv_tiling.proofs.Cancels.{sum_of-cancels}
 use Rattle.tv_tiling.proofs.Turns.{side-back}
 use Rattle.tv_tiling.proofs.Crossings.{number, number-back, number-climbs, number-descends, weighted-adds}
 use Rattle.tv_tiling.proofs.Heights.{at-small, height, height-less, height-flat, lift, lift-less, lift-least, lift-greatest, lift-weighted}

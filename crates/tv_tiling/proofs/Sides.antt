@@ -9,7 +9,8 @@ use Rattle.tv_spec_hull.specs.Members.{Among, Once}
 use Rattle.tv_spec_hull.specs.Edges.{sides, edges, back, IsTurned, AreTurned}
 use Rattle.tv_tiling.specs.Points.{IsSpread}
 use Rattle.tv_tiling.proofs.Lists.{all-at, flat_map-among}
-use Rattle.tv_tiling.proofs.Turns.{turn-rotate, turn-apart, turn-back}
+use Rattle.tv_spec_hull.proofs.Turns.{turn-rotate}
+use Rattle.tv_tiling.proofs.Turns.{turn-apart, turn-back}
 
 pub turned-at : (ps : List Point) (ts : List Triple) → AreTurned ps ts → (i : ℕ) → i < length ts → IsTurned ps (triangle_at ts i)
 turned-at ps ts turned i h = all-at (IsTurned ps) ts _ turned i h

@@ -6,7 +6,8 @@ use Rattle.std.proofs.lemmas.Int.{ints}
 use Rattle.tv_spec_plane.specs.Plane.{Point, turn}
 use Rattle.tv_spec_plane.specs.Tiling.{Rational, side}
 use Rattle.tv_lemmas.proofs.Signs.{factor-zero}
-use Rattle.tv_lemmas.proofs.Integers.{diff_of, diff-pos, diff-same, diffs}
+use Rattle.tv_spec_hull.proofs.Turns.{turn-rotate, turn-exchange, turn-first}
+use Rattle.tv_lemmas.proofs.Integers.{diff_of, diff-same, diffs}
 
 pub turn-is : (a b c : Point) → turn a b c ≡ ((b.x -ℤ a.x) *ℤ (c.y -ℤ a.y)) -ℤ ((b.y -ℤ a.y) *ℤ (c.x -ℤ a.x))
 unfolding turn
@@ -15,24 +16,6 @@ turn-is a b c = refl
 pub side-is : (a b : Point) (p : Rational) → side a b p ≡ ((b.x -ℤ a.x) *ℤ (p.y -ℤ (pos p.k *ℤ a.y))) -ℤ ((b.y -ℤ a.y) *ℤ (p.x -ℤ (pos p.k *ℤ a.x)))
 unfolding side
 side-is a b p = refl
-
-pub turn-rotate : (a b c : Point) → turn b c a ≡ turn a b c
-unfolding turn
-turn-rotate a b c =
-    let r = diff_of a.x in let s = diff_of a.y in let t = diff_of b.x in let u = diff_of b.y in let v = diff_of c.x in let w = diff_of c.y in
-    rw (r.2, s.2, t.2, u.2, v.2, w.2) (simp diffs (diff-same _ _ _ _ (omega arith)))
-
-pub turn-exchange : (a b c : Point) → turn a c b ≡ neg_ℤ (turn a b c)
-unfolding turn
-turn-exchange a b c =
-    let r = diff_of a.x in let s = diff_of a.y in let t = diff_of b.x in let u = diff_of b.y in let v = diff_of c.x in let w = diff_of c.y in
-    rw (r.2, s.2, t.2, u.2, v.2, w.2) (simp diffs (diff-same _ _ _ _ (omega arith)))
-
-pub turn-first : (a c : Point) → turn a a c ≡ pos 0
-unfolding turn
-turn-first a c =
-    let r = diff_of a.x in let s = diff_of a.y in let v = diff_of c.x in let w = diff_of c.y in
-    rw (r.2, s.2, v.2, w.2, diff-pos 0) (simp diffs (diff-same _ _ _ _ (omega arith)))
 
 pub side-back : (a b : Point) (p : Rational) → side b a p ≡ neg_ℤ (side a b p)
 unfolding side

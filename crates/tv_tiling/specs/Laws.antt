@@ -11,7 +11,8 @@ use Rattle.tv_spec_hull.specs.Hull.{IsHull}
 use Rattle.tv_spec_hull.specs.Edges.{AreTurned, IsMatched}
 use Rattle.tv_tiling.specs.Points.{AreSmall, IsSpread}
 
--- spread: where all points are one, no triangles match, but each rational point is in the hull and in no triangle
+-- spread: where all points are one, the empty list of triangles is matched, and each rational point is in the hull and in no
+-- triangle
 abbrev pub MatchedTrianglesTile : Type 0
 MatchedTrianglesTile = (ps : List Point) (ts : List Triple) (hull : List Segment) → AreSmall ps → IsSpread ps → IsHull ps hull → AreTurned ps ts → IsMatched hull ts → Tiles ps ts
 

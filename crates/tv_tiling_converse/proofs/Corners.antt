@@ -10,7 +10,8 @@ use Rattle.tv_spec_hull.specs.Edges.{sides, IsTurned}
 use Rattle.tv_lemmas.proofs.Signs.{sign}
 use Rattle.tv_tiling.specs.Points.{AreSmall, AreDistinct}
 use Rattle.tv_tiling.proofs.Heights.{at-small}
-use Rattle.tv_tiling.proofs.Turns.{turn-rotate, turn-last, turn-second, turn-back, turn-sum, turn-flat}
+use Rattle.tv_spec_hull.proofs.Turns.{turn-rotate}
+use Rattle.tv_tiling.proofs.Turns.{turn-last, turn-second, turn-back, turn-sum, turn-flat}
 use Rattle.tv_tiling_converse.proofs.Spots.{spot, Leads, IsPlace, spot-leads}
 
 -- a point on the lines of both sides at a corner is the corner

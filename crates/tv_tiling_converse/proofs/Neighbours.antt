@@ -13,7 +13,8 @@ use Rattle.tv_lemmas.proofs.Signs.{mul-nonneg-neg, factor-one}
 use Rattle.tv_tiling.specs.Points.{AreSmall, AreDistinct}
 use Rattle.tv_tiling.proofs.Lists.{flat_map-among, among-flat_map, once-flat_map, find-negative}
 use Rattle.tv_tiling.proofs.Heights.{at-small}
-use Rattle.tv_tiling.proofs.Turns.{turn-rotate, turn-last, turn-second, turn-sum, turn-spread}
+use Rattle.tv_spec_hull.proofs.Turns.{turn-rotate}
+use Rattle.tv_tiling.proofs.Turns.{turn-last, turn-second, turn-sum, turn-spread}
 use Rattle.tv_tiling.proofs.Sides.{turned-at, IsThird, third-apart, IsSide, side-of, sides-once}
 use Rattle.tv_tiling.proofs.Insides.{triangle-left}
 use Rattle.tv_tiling_converse.proofs.Spots.{spot, Leads, mirror, turn-mirror, spot-leads, leads-spot, spot-generic, spot-left}

@@ -16,7 +16,8 @@ use Rattle.tv_tiling.specs.Points.{IsSmall, AreSmall}
 use Rattle.tv_lemmas.proofs.Integers.{diff_of, diff-same, diffs}
 use Rattle.tv_lemmas.proofs.Signs.{sign}
 use Rattle.tv_tiling.proofs.Heights.{at-small}
-use Rattle.tv_tiling.proofs.Turns.{turn-is, side-is, turn-flat, turn-last, turn-second, turn-rotate}
+use Rattle.tv_spec_hull.proofs.Turns.{turn-rotate}
+use Rattle.tv_tiling.proofs.Turns.{turn-is, side-is, turn-flat, turn-last, turn-second}
 
 abbrev pub digits : ℤ → ℤ → ℤ → ℤ
 digits s t u = (pos 1000000000000 *ℤ s) +ℤ ((pos 1000000 *ℤ t) +ℤ u)

@@ -6,13 +6,13 @@ use Rattle.tv_spec_plane.specs.declared.records.Triple.{Triple}
 use Rattle.tv_spec_plane.specs.Plane.{Point, at, turn, Segment, IsHullSegment}
 use Rattle.tv_spec_plane.specs.Tiling.{triangle_at, Tiles}
 use Rattle.tv_spec_hull.specs.Members.{Among}
-use Rattle.tv_spec_hull.specs.Hull.{IsHull}
 use Rattle.tv_spec_hull.specs.Edges.{sides, edges, AreTurned}
 use Rattle.tv_lemmas.proofs.Signs.{nonneg-positive, sign}
 use Rattle.tv_tiling.specs.Points.{AreSmall, AreDistinct, IsSpread}
 use Rattle.tv_tiling_converse.specs.Laws.{TilingTrianglesMatch}
 use Rattle.tv_tiling.proofs.Lists.{among-flat_map}
-use Rattle.tv_tiling.proofs.Turns.{turn-rotate, turn-exchange, turn-apart, turn-sum, turn-flat}
+use Rattle.tv_spec_hull.proofs.Turns.{turn-rotate, turn-exchange}
+use Rattle.tv_tiling.proofs.Turns.{turn-apart, turn-sum, turn-flat}
 use Rattle.tv_tiling.proofs.Sides.{turned-at}
 use Rattle.tv_tiling.proofs.Insides.{triangle-left}
 use Rattle.tv_tiling_converse.proofs.Spots.{spot, spot-generic}

@@ -1,13 +1,14 @@
 -- Directed edges that triangles have in common.
-use Rattle.std.specs.Prelude.{◌≡◌, ◌≢◌, ℕ, zero, suc, ◌<◌, ◌≤◌, ◌⊎◌, Bool, true, pos, List, [], ◌∷◌, ◌++◌, length}
-use Rattle.std.proofs.Common.{ap, subst, sym, refl, arith, inl, inr}
+use Rattle.std.specs.Prelude.{◌≡◌, ◌≢◌, ℕ, zero, suc, ◌<◌, ◌≤◌, ◌⊎◌, Bool, true, pos, List, [], ◌∷◌, length}
+use Rattle.std.proofs.Common.{ap, subst, sym, arith, inl, inr}
 use Rattle.std.proofs.lemmas.Int.{ints}
 use Rattle.tv_spec_plane.specs.declared.records.Triple.{Triple}
 use Rattle.tv_spec_plane.specs.Plane.{Point, at, turn, Segment}
 use Rattle.tv_spec_plane.specs.Tiling.{triangle_at}
 use Rattle.tv_spec_hull.specs.Members.{Among, Once}
+use Rattle.tv_spec_hull.proofs.Members.{among-append, once-append}
 use Rattle.tv_spec_hull.specs.Edges.{sides, edges, IsTurned, AreTurned}
-use Rattle.tv_hull.proofs.Rises.{turn-first, turn-rotate}
+use Rattle.tv_spec_hull.proofs.Turns.{turn-first, turn-rotate}
 use Rattle.tv_triangulation.specs.Checks.{IsShared, IsTwice, NoPair}
 
 -- where the first two sides of t are none of u's, and the third is one only where b is true
@@ -19,15 +20,6 @@ shared-last t u b ab bc ca (s, shared) = by_side shared.first
     by_side (inr (inl e)) = absurd (bc (subst (λ (r : Segment). Among r (sides u)) e shared.second))
     by_side (inr (inr (inl e))) = ca (subst (λ (r : Segment). Among r (sides u)) e shared.second)
     by_side (inr (inr (inr none))) = absurd none
-
-among-append : {A : Type 0} (x : A) (xs ys : List A) → Among x (xs ++ ys) → Among x xs ⊎ Among x ys
-among-append x [] ys among = inr among
-among-append x (z ∷ xs) ys (inl same) = inl (inl same)
-among-append x (z ∷ xs) ys (inr among) = elim (among-append x xs ys among) [ inl first ↦ inl (inr first) | inr second ↦ inr second ]
-
-once-append : {A : Type 0} (xs ys : List A) → Once xs → Once ys → ((x : A) → Among x xs → Among x ys → ⊥) → Once (xs ++ ys)
-once-append [] ys first second apart = second
-once-append (x ∷ xs) ys first second apart = (λ among. elim (among-append x xs ys among) [ inl again ↦ first.0 again | inr other ↦ apart x (inl refl) other ], once-append xs ys first.1 second (λ y h k. apart y (inr h) k))
 
 -- an edge is a side of some triangle
 edge-side : (s : Segment) (ts : List Triple) → Among s (edges ts) → (i : ℕ) × (i < length ts) × Among s (sides (triangle_at ts i))

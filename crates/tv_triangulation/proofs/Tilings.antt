@@ -22,7 +22,7 @@ use Rattle.tv_tiling.proofs.Exchanges.{exchanged_triangles_tile}
 use Rattle.tv_tiling.proofs.Matched.{matched_triangles_tile}
 use Rattle.tv_tiling_converse.proofs.Tiled.{tiling_triangles_match}
 use Rattle.tv_hull.specs.Points.{AreDistinct, IsRepeat}
-use Rattle.tv_hull.proofs.Rises.{turn-first, turn-rotate}
+use Rattle.tv_spec_hull.proofs.Turns.{turn-first, turn-rotate}
 use Rattle.tv_hull.proofs.Collinear.{flat-line}
 use Rattle.tv_triangulation.specs.Mesh.{Mesh, IsTriangulated}
 use Rattle.tv_triangulation.specs.Turned.{turn_of, turned_of, turned, IsUnit}

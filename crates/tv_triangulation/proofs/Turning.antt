@@ -5,7 +5,7 @@ use Rattle.std.proofs.lemmas.Int.{ints}
 use Rattle.tv_spec_plane.specs.declared.records.Triple.{Triple}
 use Rattle.tv_spec_plane.specs.Plane.{Point, at}
 use Rattle.tv_spec_hull.specs.Edges.{IsListed, IsTurned, AreTurned}
-use Rattle.tv_hull.proofs.Rises.{turn-exchange}
+use Rattle.tv_spec_hull.proofs.Turns.{turn-exchange}
 use Rattle.tv_triangulation.specs.Turned.{turn_of, turned_of, turned, IsUnit}
 use Rattle.tv_triangulation.specs.Checks.{AreListed, AreUnit}
 
@@ -24,7 +24,7 @@ turned_at ps t true negative listed unit = record {
 }
 turned_at ps t false positive listed unit = record { listed = listed; turned = abs-positive (turn_of ps t) positive unit }
 
-turned-one : (ps : List Point) (t : Triple) → IsListed ps t → IsUnit ps t → IsTurned ps (turned_of ps t)
+pub turned-one : (ps : List Point) (t : Triple) → IsListed ps t → IsUnit ps t → IsTurned ps (turned_of ps t)
 turned-one ps t listed unit = turned_at ps t (int_lt (turn_of ps t) (pos 0)) refl listed unit
 
 pub turned-all : (ps : List Point) (ts : List Triple) → AreListed ps ts → AreUnit ps ts → AreTurned ps (turned ps ts)
