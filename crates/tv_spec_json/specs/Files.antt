@@ -1,5 +1,5 @@
 -- The form of files in JSON, over the value that serde_json reads. In such a value each key of an object stands once, in
--- the order of its codes, and a number without fraction and exponent that 64 bits hold is a whole number.
+-- the order of its codes, and a number other than -0, without fraction and exponent, that 64 bits hold is a whole number.
 --
 -- whole z          == the value of a whole number
 -- items, values f xs == the array of the values f x
@@ -8,8 +8,8 @@
 -- file_value w     == the object that spells a web: its heights, its points, its triangles, and `tv` 1
 -- SpellsValue d w  == the value d spells that web; the numbers are within those of a text
 -- IsFileValue d    == d spells some web
--- IsFileJson bytes w == the bytes read as a value that spells that web
-use Rattle.std.specs.Prelude.{◌≡◌, ℕ, ℤ, pos, List, [], ◌∷◌, codes, Some}
+-- IsFileJson bytes w == the bytes are UTF-8, and read as a value that spells that web
+use Rattle.std.specs.Prelude.{◌≡◌, ℕ, ℤ, pos, List, [], ◌∷◌, codes, Some, IsUtf8}
 use Rattle.serde_json.specs.Data.{Data, number, array, object, Items, no_items, item, no_members, member}
 use Rattle.serde_json.specs.Find.{of_integer}
 use Rattle.serde_json.specs.Read.{read}
@@ -46,6 +46,7 @@ abbrev pub IsFileValue : Data → Type 0
 IsFileValue d = (w : Web) × SpellsValue d w
 
 pub record IsFileJson (bytes : List ℕ) (w : Web) : Type 0 where
+  pub utf8 : IsUtf8 bytes
   pub value : Data
   pub reads : read bytes ≡ Some value
   pub spells : SpellsValue value w

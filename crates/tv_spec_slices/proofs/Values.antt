@@ -1,8 +1,8 @@
 -- Worked values of slices and of paths.
-use Rattle.std.specs.Prelude.{◌≡◌, ℕ, pos, negsuc, List, [], ◌∷◌, map, true, false, refl}
+use Rattle.std.specs.Prelude.{◌≡◌, ℕ, pos, negsuc, List, [], ◌∷◌, map, false, refl}
 use Rattle.tv_cells.specs.declared.legs.Legs.{Legs}
 use Rattle.tv_spec_slices.specs.Slices.{completion}
-use Rattle.tv_spec_slices.specs.Paths.{columns, fitting, shape, ways, paths, next_of, is_entry}
+use Rattle.tv_spec_slices.specs.Paths.{columns, shape, ways, paths, next_of, is_entry, entries}
 
 abbrev legs_of : List ℕ → List ℕ → List ℕ → Legs
 legs_of x y z = record { along_x = x; along_y = y; along_z = z }
@@ -40,7 +40,7 @@ unfolding columns ways paths
 three_legs = refl
 
 -- the entries of the middle diagonal with one box at most, beside no leg: the empty slice at no cost, one box at cost 1
-middle_entries : map (λ s. map (is_entry (legs_of [] [] []) 1 (pos 0) s) (0 ∷ 1 ∷ [])) (fitting (legs_of [] [] []) (pos 0) 1) ≡ (true ∷ false ∷ []) ∷ (false ∷ true ∷ []) ∷ []
+middle_entries : entries (legs_of [] [] []) 1 (pos 0) ≡ (shape 0 [], 0) ∷ (shape 0 (1 ∷ []), 1) ∷ []
 unfolding columns ways
 middle_entries = refl
 

@@ -19,7 +19,9 @@
 -- next_of legs t a budget == the slices at t + 1 that fit, have at most that many extras, and interlace with a at t
 -- start_for legs k t  == the diagonal from which the ways up to t are counted
 -- ways_at legs k t s c == the ways up to slice s at t
--- is_entry legs k t s c == s fits at t, some ways lead up to it with c extras, and its least completion keeps within k
+-- is_entry legs k t s c == s fits at t, some ways lead up to it with c extras, and c and the extras of its least completion
+--                        are together at most k
+-- entries legs k t    == the slices and costs that are entries at t, by slice, then by cost
 use Rattle.std.specs.Prelude.{ℕ, zero, suc, ◌+◌, ◌-◌, ◌*◌, ℤ, pos, ◌+ℤ◌, ◌-ℤ◌, neg_ℤ, unsigned_abs, List, [], ◌∷◌, ◌++◌, map, filter, Bool, cond, ◌&&◌, nat_eq, nat_lt, nat_le}
 use Rattle.std.specs.List.{flat_map}
 use Rattle.std.specs.Int.{int_min}
@@ -84,3 +86,6 @@ ways_at legs k t s c = ways legs k (start_for legs k t) (unsigned_abs (t -ℤ st
 
 abbrev pub is_entry : Legs → ℕ → ℤ → Shape → ℕ → Bool
 is_entry legs k t s c = fits legs t s && (nat_le (c + completion legs t s) k && nat_lt 0 (ways_at legs k t s c))
+
+abbrev pub entries : Legs → ℕ → ℤ → List (Shape × ℕ)
+entries legs k t = flat_map (λ s. map (λ c. (s, c)) (filter (is_entry legs k t s) (below (suc k)))) (fitting legs t k)
