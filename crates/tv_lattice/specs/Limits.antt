@@ -2,6 +2,7 @@
 --
 -- IsCoordinate z    == at most 100 in absolute value
 -- IsHeight z        == at most 1,000,000 in absolute value
+-- HasCoordinates p  == both coordinates of the point within that limit
 -- IsWithinLimits w  == at most 64 points and 128 triangles, and each coordinate and each height within its limit
 use Rattle.std.specs.Prelude.{◌≤◌, ℤ, length, unsigned_abs}
 use Rattle.std.specs.List.{AllByRecursion}

@@ -9,7 +9,7 @@ ghost use Rattle.tv_lattice.specs.Classes.{IsEntry, IsEntries, entry_sums};
 use std::alloc::{AllocError, Global};
 use std::marker::Model;
 
-/// At most 64 entries, each of at most 10^11 in absolute value.
+/// At most 64 entries, one for each point in the order of the points, each of at most 10^11 in absolute value.
 #[derive(Drop, Debug)]
 pub struct Class {
     entries: Vec<i64>,
@@ -27,6 +27,7 @@ impl Model for Class {
 }
 
 impl Class {
+    /// The class with these entries, in the order of the points.
     pub fn new(entries: Vec<i64>) -> Class
         requires { IsEntries entries.items }
         ensures { result ≡ entries.items }
@@ -34,6 +35,7 @@ impl Class {
         Class { entries }
     }
 
+    /// The entries, in the order of the points.
     pub fn entries(&self) -> &[i64]
         ensures value { result.now ≡ self.now }
         ensures limits { IsEntries result.now }
@@ -41,7 +43,7 @@ impl Class {
         &self.entries
     }
 
-    /// The sum entry by entry.
+    /// The sum entry by entry: the class of two curves together. It errs only for want of memory.
     pub fn plus(&self, other: &Class, alloc: Global) -> Result<Class, AllocError>
         requires same_length { length self.now ≡ length other.now }
         requires small { AllByRecursion IsEntry (entry_sums self.now other.now) }
@@ -51,7 +53,7 @@ impl Class {
         Ok(Class { entries: sums })
     }
 
-    /// The sum of height times entry.
+    /// The degree of the class under the heights: the sum over the points of height times entry.
     pub fn degree(&self, heights: &[i64]) -> i64
         requires same_length { length heights.now ≡ length self.now }
         requires small { AllByRecursion IsHeight heights.now }
@@ -83,7 +85,7 @@ fn sum(x: i64, y: i64) -> i64
     x + y
 }
 
-/// Entry number k.
+/// Entry number k, counted from 0.
 pub fn entry_at(entries: &[i64], k: usize) -> i64
     requires within { k < length entries.now }
     requires limits { IsEntries entries.now }
@@ -93,7 +95,7 @@ pub fn entry_at(entries: &[i64], k: usize) -> i64
     entries[k]
 }
 
-/// Height number k.
+/// Height number k, counted from 0.
 pub fn height_at(heights: &[i64], k: usize) -> i64
     requires within { k < length heights.now }
     requires limits { AllByRecursion IsHeight heights.now }
@@ -116,7 +118,7 @@ fn degree_of(heights: &[i64], entries: &[i64]) -> i64
     total
 }
 
-/// A sum with one more height times entry.
+/// A sum with one more height times entry. The bound leaves room for 63 such terms before it.
 pub fn with_term(total: i64, height: i64, entry: i64) -> i64
     requires total { unsigned_abs total ≤ 6300000000000000000 }
     requires height { IsHeight height }

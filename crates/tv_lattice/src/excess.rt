@@ -12,7 +12,8 @@ use std::alloc::Global;
 use tv_spec_plane::records::RawPoint;
 
 /// The same file as one within the limits, or the first limit that it passes: first the count of points, then that of
-/// triangles, then the first point with a coordinate over its limit, then the first height over its limit.
+/// triangles, then the first point with a coordinate over its limit, then the first height over its limit. Want of
+/// memory may come before a coordinate or a height is named.
 pub fn limits(alloc: Global, raw: RawFile) -> Result<FileData, InputError>
     ensures { MatchResult result (λ w. (w ≡ raw) × IsWithinLimits w) (IsLimitFault raw) }
 {

@@ -6,6 +6,7 @@ ghost use Rattle.tv_lattice.specs.Limits.{IsCoordinate};
 
 use std::marker::Model;
 
+/// A lattice point: whole coordinates, each of at most 100 in absolute value.
 #[derive(Clone, Copy, Debug, PartialEq, Eq)]
 pub struct Point {
     x: i64,
@@ -39,6 +40,7 @@ impl Point {
         Some(Point { x, y })
     }
 
+    /// The first coordinate.
     pub fn x(&self) -> i64
         ensures value { result ≡ self.now.x }
         ensures small { IsCoordinate result }
@@ -46,6 +48,7 @@ impl Point {
         self.x
     }
 
+    /// The second coordinate.
     pub fn y(&self) -> i64
         ensures value { result ≡ self.now.y }
         ensures small { IsCoordinate result }
@@ -54,7 +57,7 @@ impl Point {
     }
 }
 
-/// Point i of the list, or the origin past its end.
+/// Point i of the list, counted from 0, or the origin past its end.
 pub fn at(points: &[Point], i: u32) -> Point
     ensures { result ≡ at points.now i }
 {

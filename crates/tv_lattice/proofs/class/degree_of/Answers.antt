@@ -1,4 +1,4 @@
-use Rattle.std.proofs.Common.{◌≡◌, w64, arith}
+use Rattle.std.proofs.Common.{w64, arith}
 use Rattle.std.proofs.lemmas.Int.{ints, to_z-of_z}
 use Rattle.tv_lattice.proofs.Sums.{degree_from-first, degree_from-next, degree_from-end, small-fits, entry-fits, height-fits}
 use Rattle.tv_lattice.proofs.class.degree_of.Goals as goal

@@ -1,5 +1,5 @@
-use Rattle.std.proofs.Common.{◌*ℤ◌, w64, lit<, refl, arith}
-use Rattle.std.proofs.lemmas.Int.{ints, to_z-of_z, fits_signed_mul}
+use Rattle.std.proofs.Common.{◌*ℤ◌, w64, lit<, refl}
+use Rattle.std.proofs.lemmas.Int.{to_z-of_z, fits_signed_mul}
 use Rattle.tv_lattice.proofs.Sums.{product-limit}
 use Rattle.tv_lattice.proofs.class.term.Goals as goal
 
