@@ -33,6 +33,7 @@ module _ {A : Type 0} {IsValue : A → Type 0} {r : Operations A} (laws : RingLa
     dividend = full.counts;
     divisor = divisor.values;
     one = starts.unit;
+    begins = starts.none;
     least = lowest w fixed d;
     none = λ i below. nothing_below w fixed d x.class i graded diagrams is.place.within below;
   }

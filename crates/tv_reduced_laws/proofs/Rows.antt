@@ -33,6 +33,7 @@ pub record IsGiven {A : Type 0} (IsValue : A → Type 0) (r : Operations A) (n :
   pub dividend : (i : ℤ) → i ≤ℤ n → coefficient r a i ≡ whole_times r (z i)
   pub divisor : (j : ℤ) → j ≤ℤ upto b → coefficient r b j ≡ whole_times r (g j)
   pub one : g (pos 0) ≡ pos 1
+  pub begins : (j : ℤ) → j <ℤ pos 0 → g j ≡ pos 0
   pub least : ℤ
   pub none : (i : ℤ) → i <ℤ least → z i ≡ pos 0
 
@@ -54,10 +55,11 @@ quotient_from-at z g low k =
     let e : above low (low +ℤ pos k) ≡ k = omega (arith, ints, above_is low (low +ℤ pos k)) in
     rw (int_lt-not (low +ℤ pos k) low (omega (arith, ints)), e) refl
 
-unfoldable pub quotient_is : (n : ℤ) (z g : ℤ → ℤ) (low : ℤ) → g (pos 0) ≡ pos 1 → ((i : ℤ) → i <ℤ low → z i ≡ pos 0) → IsQuotient n z g (quotient_from z g low)
-quotient_is n z g low one none = record {
+unfoldable pub quotient_is : (n : ℤ) (z g : ℤ → ℤ) (low : ℤ) → g (pos 0) ≡ pos 1 → ((j : ℤ) → j <ℤ pos 0 → g j ≡ pos 0) → ((i : ℤ) → i <ℤ low → z i ≡ pos 0) → IsQuotient n z g (quotient_from z g low)
+quotient_is n z g low one begins none = record {
   low = low;
   none = quotient_from-below z g low;
+  begins = begins;
   product = λ m h. by_lt_z m low
       (λ below. product-below low (quotient_from z g low) g m below ∙ sym (none m below))
       (λ reached. let e : low +ℤ pos (above low m) ≡ m = above_adds low m reached in
@@ -154,7 +156,7 @@ module _ {A : Type 0} {IsValue : A → Type 0} {r : Operations A} (laws : RingLa
         ∙ ap (whole_times r) (sym (quotient_from-at z g (int_min a.low given.least) (above (int_min a.low given.least) i)) ∙ ap (quotient_from z g (int_min a.low given.least)) e)))
 
     unfoldable pub given_quotient : IsQuotient n z g (quotient_from z g (int_min a.low given.least))
-    given_quotient = quotient_is n z g (int_min a.low given.least) given.one (λ i h. given.none i (omega (arith, ints, clamps)))
+    given_quotient = quotient_is n z g (int_min a.low given.least) given.one given.begins (λ i h. given.none i (omega (arith, ints, clamps)))
 
     pub given_quotient-low : given_quotient.low ≡ int_min a.low given.least
     unfolding given_quotient quotient_is

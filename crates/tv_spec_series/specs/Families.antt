@@ -8,7 +8,7 @@
 -- coefficient r t n       == the coefficient of a series at n: nought below its lowest exponent and beyond its last
 -- entries_before u v      == whether, at the first entry where the vectors differ, that of u is the lesser
 -- comes_before hs u v     == whether u has the lesser degree, or the same degree and the lesser entries
--- find v rows             == the row of the class v
+-- find v rows             == the first row of the class v, None where it is not there
 -- put r hs n v s rows     == the rows with s added into the class v, through the exponent n
 -- added r v s f           == the family with s added into the class v
 -- divided_row r z x       == the row with its series divided by z
@@ -17,7 +17,7 @@
 -- series_coefficient r n found == the coefficient at n of the series of the row that was found, and nought where there is none
 -- coefficient_of r f v n  == the coefficient at n of the series of the class v, and nought where v is not there
 -- HasPlace hs top v       == v has an entry for each height, and a degree from 0 to top
--- IsRow IsValue r hs top n row == the row's class has a place, and its series is known through n exactly
+-- IsRow IsValue r hs top n row == the row's class has a place, and its series is one that is known through n and no further
 -- IsFamily IsValue r f    == its exponent is within 2^60, the classes of the rows rise, and each row is one of the family
 -- IsAddend IsValue r f v s == v has a place in f, and s is a series that is known at least as far as f is
 use Rattle.std.specs.Prelude.{◌≡◌, ℤ, pos, ◌≤ℤ◌, int_lt, Bool, false, ◌&&◌, ◌||◌, if◌then◌else◌, List, [], ◌∷◌, map, length, Option, Some, None}

@@ -3,12 +3,14 @@
 --
 -- from f m k           == f at the exponent m + k
 -- product_at low f g n == the coefficient at n of the product of f, which is 0 below low, and g, which is 0 below 0
--- IsQuotient n z g f   == f is 0 below some exponent, and the product of f and g is z at every exponent through n
+-- IsQuotient n z g f   == f is 0 below some exponent, g below exponent 0, and the product of f and g is z at every exponent
+--                         through n
 -- full_coefficient w fixed v n == the signed count of class v
 -- zero_coefficient w fixed n == that of class zero
--- IsReduced w fixed n v f == f is the reduced series of the class v, through n
--- quotient_size z g f low n == |z at n| plus the sum over j from 1 on of |g at j| times |f at n - j|, f being 0 below low
--- IsSpread w fixed n v m k == k is that number at m for the reduced series of v through n
+-- IsReduced w fixed n v f == f is the reduced series of the class v, through n. It is so for fixed diagrams on the open edges
+--                         whose legs meet nowhere, as the empty ones: there class zero begins at exponent 0
+-- quotient_size z g f low m == |z at m| plus the sum over j from 1 on of |g at j| times |f at m - j|, f being 0 below low
+-- IsSpread w fixed n v m k == for m at most n, k is that number at m of the reduced series of v through n
 use Rattle.std.specs.Prelude.{◌≡◌, ℕ, suc, ◌+◌, ◌-◌, ◌*◌, ℤ, pos, ◌+ℤ◌, ◌-ℤ◌, ◌*ℤ◌, ◌≤ℤ◌, ◌<ℤ◌, unsigned_abs, int_lt, List, length, if◌then◌else◌}
 use Rattle.tv_ring.specs.Whole.{wholes}
 use Rattle.tv_ring.specs.Sums.{convolution, total_below}
@@ -26,6 +28,7 @@ product_at low f g n = if int_lt n low then pos 0 else convolution wholes (from 
 pub record IsQuotient (n : ℤ) (z g f : ℤ → ℤ) : Type 0 where
   pub low : ℤ
   pub none : (m : ℤ) → m <ℤ low → f m ≡ pos 0
+  pub begins : (m : ℤ) → m <ℤ pos 0 → g m ≡ pos 0
   pub product : (m : ℤ) → m ≤ℤ n → product_at low f g m ≡ z m
 
 abbrev pub full_coefficient : Web → List Rows → List ℤ → ℤ → ℤ

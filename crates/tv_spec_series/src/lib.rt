@@ -1,2 +1,3 @@
-//! Families of series by class, as definitions. Nothing is added here for a caller.
+//! Families of series by class, reduced series and the sizes of their division, as definitions. Nothing is added here for a
+//! caller.
 #![tactic(auto)]
