@@ -1,7 +1,9 @@
 -- The full series of every class: the signed counts of its configurations.
 --
 -- HasCounts r w fixed n row == each coefficient of the row through n is the signed count of its class there, times one
--- IsFullRow r w fixed d n row == and its series is known through n, and starts at the lowest exponent or above, or beyond n
+-- IsFullRow r w fixed d n row == and its series is known through n, and starts at `lowest` or above, or beyond n; it is 0 below
+--                          `lowest`, which is the least, over the assignments of degree at most d, of the sum of
+--                          min(0, edge cost) over the compact edges less the overlap costs
 -- IsFull r w fixed d n f == the heights are those of the web, the degrees go to d and the exponents to n, the rows are the
 --                          classes that assignments of degree at most d have, each once, in order, and each row is full
 -- FullIsOnly r          == two full families of one web have the same coefficients through n, whatever the class

@@ -3,7 +3,7 @@
 -- of_class w v front    == the assignments of class v among those in front
 -- class_total w fixed v i front == the sum of their coefficients at i
 -- IsTermsOf r w fixed n a t == t starts where the assignment starts, or beyond n, and has its coefficients through n, times one
--- StartsAbove w fixed d n row == the row's series starts at the lowest exponent or above, or beyond n
+-- StartsAbove w fixed d n row == the row's series starts at `lowest` or above, or beyond n; so it is 0 below `lowest`
 -- IsGlued r w fixed d n front f == the heights are those of the web, the degrees go to d and the exponents to n, the rows
 --                          have the classes of the assignments in front, and as coefficients through n these sums, times one
 use Rattle.std.specs.Prelude.{◌≡◌, Contains, ℕ, ℤ, pos, ◌+ℤ◌, ◌≤ℤ◌, List, filter}

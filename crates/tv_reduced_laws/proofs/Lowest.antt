@@ -1,4 +1,4 @@
--- Below the lowest exponent a class has no configurations.
+-- Below `lowest` a class has no configurations.
 use Rattle.std.proofs.Common.{◌≡◌, ℕ, ap, ◌∙◌, arith}
 use Rattle.std.specs.Prelude.{Contains, pos, ◌*ℤ◌, filter}
 use Rattle.std.specs.List.{AllByRecursion}

@@ -16,7 +16,7 @@ use Rattle.tv_terms.proofs.Exponents.{above_is, above_adds}
 use Rattle.tv_terms.proofs.Padded.{padded_before, padded_after, padded-convolution}
 use Rattle.tv_terms.proofs.Quotients.{quotient, only_quotient}
 use Rattle.tv_spec_series.specs.Reduced.{from, product_at, IsQuotient}
-use Rattle.tv_reduced_laws.specs.Laws.{OnlyQuotient}
+use Rattle.tv_reduced_laws.specs.Laws.{OnlyQuotientThrough}
 
 abbrev pub multiples : {A : Type 0} → Operations A → (ℕ → ℤ) → ℕ → A
 multiples r c i = whole_times r (c i)
@@ -91,7 +91,7 @@ from_both n z g f m k one q l within =
     only_quotient whole_laws (from z m) (from g (pos 0)) (from f m) (suc k) k (λ i. tt) (λ i. tt) one
     (λ i h. sym (product-at m f g i) ∙ (lower q.low m f g (m +ℤ pos i) l q.none ∙ q.product (m +ℤ pos i) (omega (arith, ints)))) (omega arith)
 
-pub only_quotient_is : OnlyQuotient
+pub only_quotient_is : OnlyQuotientThrough
 only_quotient_is n z g f h one qf qh i within =
     let m = int_min (int_min qf.low qh.low) i in
     let k = above m i in

@@ -1,10 +1,12 @@
 -- Families of reduced series.
 --
--- IsReducedRow r w fixed n row == the row's coefficients through n are those of the reduced series of its class, times one
+-- IsReducedRow r w fixed n row == the row's coefficients through n are those of the reduced series of its class, times one, and
+--                          its series is known through n and no further
 -- IsReducedFamily r w fixed d n f == the heights are those of the web, the degrees go to d and the exponents to n, the rows
 --                          are the classes that assignments of degree at most d have, each once, in order, and each row is
 --                          reduced
--- IsDivisor r w fixed b == b begins with one at exponent 0, and its coefficients are those of class zero, times one
+-- IsDivisor r w fixed b == b begins with one at exponent 0, and its coefficients as far as it is known are those of class zero,
+--                          times one
 use Rattle.std.specs.Prelude.{◌≡◌, ℕ, ℤ, pos, ◌≤ℤ◌, List}
 use Rattle.std.specs.List.{AllByRecursion}
 use Rattle.tv_ring.specs.Operations.{Operations}

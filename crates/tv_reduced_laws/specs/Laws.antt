@@ -1,9 +1,10 @@
 -- What is true of reduced series, as laws.
 --
--- OnlyQuotient  == of two quotients of z by g, through n, each is the other through n, where g is 1 at 0
--- HasUnit g     == g is 1 at 0, and 0 below
--- BeginsWithOne == the full series of class zero, with all open edges empty, is 1 at exponent 0 and 0 below
--- NothingBelow  == the full series of a class of degree at most d is 0 below the lowest exponent
+-- OnlyQuotientThrough == of two quotients of z by g, through n, each is the other through n, where g is 1 at 0
+-- HasUnit g           == g is 1 at 0, and 0 below
+-- BeginsWithOne       == the full series of class zero, with all open edges empty, is 1 at exponent 0 and 0 below
+-- NothingBelow        == the full series of a class of degree at most d is 0 below `lowest`: the least, over the assignments of
+--                        degree at most d, of the sum of min(0, edge cost) over the compact edges less the overlap costs
 use Rattle.std.specs.Prelude.{◌≡◌, ℕ, ℤ, pos, ◌≤ℤ◌, ◌<ℤ◌, List}
 use Rattle.std.specs.List.{AllByRecursion}
 use Rattle.tv_spec_plane.specs.Web.{Web, degree_of}
@@ -14,8 +15,8 @@ use Rattle.tv_spec_boxes.specs.Configurations.{signed_count}
 use Rattle.tv_spec_boxes.specs.Numbers.{lowest}
 use Rattle.tv_spec_series.specs.Reduced.{IsQuotient, zero_coefficient}
 
-abbrev pub OnlyQuotient : Type 0
-OnlyQuotient = (n : ℤ) (z g f h : ℤ → ℤ) → g (pos 0) ≡ pos 1 → IsQuotient n z g f → IsQuotient n z g h → (i : ℤ) → i ≤ℤ n → f i ≡ h i
+abbrev pub OnlyQuotientThrough : Type 0
+OnlyQuotientThrough = (n : ℤ) (z g f h : ℤ → ℤ) → g (pos 0) ≡ pos 1 → IsQuotient n z g f → IsQuotient n z g h → (i : ℤ) → i ≤ℤ n → f i ≡ h i
 
 pub record HasUnit (g : ℤ → ℤ) : Type 0 where
   pub unit : g (pos 0) ≡ pos 1

@@ -1,10 +1,10 @@
 //! Laws of reduced series: each function does nothing, and its contract is a law.
 
-ghost use Rattle.tv_reduced_laws.specs.Laws.{OnlyQuotient, BeginsWithOne, NothingBelow};
+ghost use Rattle.tv_reduced_laws.specs.Laws.{OnlyQuotientThrough, BeginsWithOne, NothingBelow};
 
 /// Of two quotients, through n, by one series that is 1 at exponent 0, each is the other through n.
 pub fn only_quotient()
-    ensures { OnlyQuotient }
+    ensures { OnlyQuotientThrough }
 {}
 
 /// The series of class zero of a graded web, with all open edges empty, is 1 at exponent 0 and 0 below.
@@ -12,7 +12,8 @@ pub fn class_zero_begins_with_one()
     ensures { BeginsWithOne }
 {}
 
-/// The signed count of a class of degree at most d is 0 below the lowest exponent of that degree.
+/// The signed count of a class of degree at most d is 0 below `lowest`: the least, over the assignments of degree at most d,
+/// of the sum of min(0, edge cost) over the compact edges less the overlap costs.
 pub fn nothing_below_the_lowest()
     ensures { NothingBelow }
 {}
