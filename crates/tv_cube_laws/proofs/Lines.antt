@@ -26,14 +26,6 @@ or_last : (a b : Bool) → a ≡ false → (a || b) ≡ true → b ≡ true
 or_last true b e h = cc
 or_last false b e h = h
 
-or_first : (a b : Bool) → a ≡ true → (a || b) ≡ true
-or_first true b e = refl
-or_first false b e = cc
-
-or_second : (a b : Bool) → b ≡ true → (a || b) ≡ true
-or_second true b e = refl
-or_second false b e = e
-
 remove-keeps : (c e : Cell) (cells : List Cell) → same e c ≡ false → list_any (same e) cells ≡ true → list_any (same e) (remove c cells) ≡ true
 remove-keeps c e [] p m = m
 remove-keeps c e (d ∷ cells) p m = step (same c d) refl (remove-keeps c e cells p)

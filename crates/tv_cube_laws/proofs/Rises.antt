@@ -51,9 +51,6 @@ behind c d (e ∷ cells) b m = step (same c e) refl (behind c d cells b.1) m
 not_both : (c d : Cell) → precedes c d ≡ true → precedes d c ≡ true → ⊥
 not_both c d p q = grind (arith, nat_tests)
 
-SameMembers : List Cell → List Cell → Type 0
-SameMembers xs ys = (c : Cell) → list_any (same c) xs ≡ list_any (same c) ys
-
 heads : (x y : Cell) (xs ys : List Cell) → Before x xs → Before y ys → (same x y || list_any (same x) ys) ≡ true → (same y x || list_any (same y) xs) ≡ true → x ≡ y
 heads x y xs ys bx by mx my = step (same x y) (same y x) refl refl mx my
   where

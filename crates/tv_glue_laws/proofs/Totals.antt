@@ -1,6 +1,6 @@
 -- What the assignments of one class among some add to the count, and in how many ways.
 use Rattle.std.specs.Prelude.{◌≡◌, ℕ, ◌+◌, ◌*◌, ◌≤◌, ℤ, pos, negsuc, ◌+ℤ◌, unsigned_abs, Bool, true, false, cond, nat_eq, List, [], ◌∷◌, ◌++◌}
-use Rattle.std.proofs.Common.{refl, sym, ap, ◌∙◌, arith}
+use Rattle.std.proofs.Common.{refl, sym, ap, ◌∙◌, arith, append-nil}
 use Rattle.std.proofs.lemmas.Int.{ints, unsigned_abs-mul}
 use Rattle.std.proofs.lemmas.List.Elements.{filter-append}
 use Rattle.tv_spec_plane.specs.Web.{Web, sign, parity}
@@ -28,10 +28,6 @@ class_ways_is w fixed v i front = refl
 -- one more assignment
 of_class-here : (w : Web) (v : List ℤ) (front : List Assignment) (a : Assignment) → same_vector (class_of w a) v ≡ true → of_class w v (front ++ a ∷ []) ≡ of_class w v front ++ a ∷ []
 of_class-here w v front a e = filter-append (λ b. same_vector (class_of w b) v) front (a ∷ []) ∙ ap (λ t. of_class w v front ++ cond t (a ∷ []) []) e
-
-append-nil : {A : Type 0} (xs : List A) → xs ++ [] ≡ xs
-append-nil [] = refl
-append-nil (x ∷ xs) = ap (λ ys. x ∷ ys) (append-nil xs)
 
 of_class-other : (w : Web) (v : List ℤ) (front : List Assignment) (a : Assignment) → same_vector (class_of w a) v ≡ false → of_class w v (front ++ a ∷ []) ≡ of_class w v front
 of_class-other w v front a e = filter-append (λ b. same_vector (class_of w b) v) front (a ∷ []) ∙ (ap (λ t. of_class w v front ++ cond t (a ∷ []) []) e ∙ append-nil (of_class w v front))
