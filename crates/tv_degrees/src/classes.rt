@@ -12,7 +12,7 @@ use tv_lattice::point;
 use tv_spec_plane::records::CompactEdge;
 use tv_web::web::Web;
 
-/// The class of the compact edge of that number.
+/// The class of the compact edge of that number, counted from 0 in the order of the web's list.
 pub fn edge_class(alloc: Global, web: &Web, e: u32) -> Result<Class, AllocError>
     requires { e < length (compact web.now) }
     ensures { IfOk result (λ class. class ≡ edge_class web.now (edge_at web.now e)) }
@@ -20,6 +20,7 @@ pub fn edge_class(alloc: Global, web: &Web, e: u32) -> Result<Class, AllocError>
     class_of(alloc, web, edge_at(web, e))
 }
 
+/// The compact edge of that number.
 pub fn edge_at(web: &Web, e: u32) -> CompactEdge
     requires { e < length (compact web.now) }
     ensures { result ≡ edge_at web.now e }
@@ -27,7 +28,7 @@ pub fn edge_at(web: &Web, e: u32) -> CompactEdge
     web.compact()[e as usize]
 }
 
-/// The class of that edge.
+/// The class of that edge, in the order of the points: the intersection numbers of its curve with the toric divisors.
 pub fn class_of(alloc: Global, web: &Web, edge: CompactEdge) -> Result<Class, AllocError>
     ensures { IfOk result (λ class. class ≡ edge_class web.now edge) }
 {
@@ -56,7 +57,7 @@ fn entries_of(
     Ok(Class::new(entries))
 }
 
-/// The r of the rule of the edge.
+/// The r of the rule of the edge, c + d = p a + r b with p + r = 2.
 #[tactic(auto, unfolding(tv_spec_plane::specs::Web::edge_ratio))]
 pub fn edge_ratio(web: &Web, edge: CompactEdge) -> i64
     ensures value { result ≡ edge_ratio web.now edge }
@@ -69,7 +70,7 @@ pub fn edge_ratio(web: &Web, edge: CompactEdge) -> i64
     relation::ratio(a, b, c, d)
 }
 
-/// The normal degree at the first point of an edge of that r.
+/// The normal degree at the first point of an edge of that r: the entry of its class there.
 pub fn normal_a(ratio: i64) -> i64
     requires { unsigned_abs ratio ≤ 6400000000 }
     ensures value { result ≡ ratio -ℤ pos 2 }
@@ -78,7 +79,7 @@ pub fn normal_a(ratio: i64) -> i64
     ratio - 2
 }
 
-/// The normal degree at its second point.
+/// The normal degree at its second point; both together are -2.
 pub fn normal_b(ratio: i64) -> i64
     requires { unsigned_abs ratio ≤ 6400000000 }
     ensures value { result ≡ neg_ℤ ratio }

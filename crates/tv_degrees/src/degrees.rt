@@ -12,7 +12,7 @@ use tv_lattice::class;
 use tv_spec_plane::records::CompactEdge;
 use tv_web::web::Web;
 
-/// The sum of height times entry of the edge's class.
+/// The degree of compact edge e at these heights: the sum over the points of height times entry of its class.
 pub fn edge_degree(web: &Web, e: u32, heights: &[i64]) -> i64
     requires listed { e < length (compact web.now) }
     requires one_each { length heights.now ≡ length web.now.points }

@@ -6,8 +6,10 @@ use thiserror::Error;
 /// The first compact edge of a degree of at most 0, or want of memory.
 #[derive(Clone, Copy, Debug, PartialEq, Eq, Error)]
 pub enum DegreeFault {
+    /// The edge by the numbers of its points, the lesser first, and its degree.
     #[error("the edge {a} {b} has the degree {degree}")]
     Degree { a: u32, b: u32, degree: i64 },
+    /// Memory was wanting.
     #[error("out of memory")]
     Memory,
 }

@@ -55,6 +55,7 @@ pub fn grade(alloc: Global, web: Web, heights: Vec<i64>) -> Result<GradedWeb, De
 }
 
 impl GradedWeb {
+    /// The web without its heights.
     pub fn web(&self) -> &Web
         ensures value { with_heights result.now self.now.heights ≡ self.now }
         ensures same_compact { compact result.now ≡ compact self.now }
@@ -64,6 +65,7 @@ impl GradedWeb {
         &self.web
     }
 
+    /// The heights, one for each point in the order of the points.
     pub fn heights(&self) -> &[i64]
         ensures value { result.now ≡ self.now.heights }
         ensures one_each { IsHeighted self.now }
@@ -72,7 +74,7 @@ impl GradedWeb {
         &self.heights
     }
 
-    /// The edges of two triangles, in the order of their points.
+    /// The edges of two triangles, in the order of their points: by the lesser, then by the greater number.
     pub fn compact(&self) -> &[CompactEdge]
         ensures value { result.now ≡ compact self.now }
         ensures few { length result.now ≤ 4096 }
@@ -80,7 +82,7 @@ impl GradedWeb {
         self.web().compact()
     }
 
-    /// The edges of one triangle, in the order of their points.
+    /// The edges of one triangle, in the same order.
     pub fn outer(&self) -> &[OuterEdge]
         ensures value { result.now ≡ outer self.now }
         ensures few { length result.now ≤ 4096 }
@@ -88,7 +90,7 @@ impl GradedWeb {
         self.web().outer()
     }
 
-    /// One for each triangle, in their order.
+    /// The corners, one for each triangle, in their order.
     pub fn corners(&self) -> &[Corner]
         ensures { result.now ≡ corners self.now }
     {

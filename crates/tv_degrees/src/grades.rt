@@ -18,7 +18,9 @@ use tv_web::web::Web;
 /// One class and one degree for each edge.
 #[derive(Drop)]
 pub struct Grades {
+    /// The classes, in the order of the edges.
     pub classes: Vec<Class>,
+    /// The degrees, in the same order.
     pub degrees: Vec<i64>,
 }
 

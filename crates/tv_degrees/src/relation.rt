@@ -7,7 +7,7 @@ ghost use Rattle.tv_edge_laws.specs.Rule.{HasSides, ratio, IsOnlyRule};
 use tv_lattice::point::Point;
 use tv_lattice::turn::turn;
 
-/// The p and r with c + d = p a + r b and p + r = 2.
+/// The p and r with c + d = p a + r b and p + r = 2, where a b c and a b d are unimodular on either side of a b.
 pub fn relation(a: Point, b: Point, c: Point, d: Point) -> (i64, i64)
     requires { HasSides a b c d }
     ensures { IsOnlyRule a b c d result.0 result.1 }

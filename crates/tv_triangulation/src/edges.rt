@@ -9,14 +9,14 @@ ghost use Rattle.tv_triangulation.specs.Segments.{same_segment};
 use std::alloc::{AllocError, Global};
 use tv_spec_plane::records::Triple;
 
-/// The sides of a triangle, in the order of its points.
+/// The sides of a triangle in the order of its points, each directed from one point to the next.
 pub fn sides_of(t: Triple) -> [(u32, u32); 3]
     ensures { result ≡ sides t }
 {
     [(t.a, t.b), (t.b, t.c), (t.c, t.a)]
 }
 
-/// The sides of all triangles.
+/// The sides of all triangles, triangle by triangle.
 pub fn edges_of(alloc: Global, triangles: &[Triple]) -> Result<Vec<(u32, u32)>, AllocError>
     ensures { IfOk result (λ v. v.items ≡ edges triangles.now) }
 {
@@ -27,7 +27,7 @@ pub fn edges_of(alloc: Global, triangles: &[Triple]) -> Result<Vec<(u32, u32)>, 
     Ok(edges)
 }
 
-/// Whether the segment is among the segments.
+/// Whether the segment, in its direction, is among the segments.
 pub fn contains(segments: &[(u32, u32)], s: (u32, u32)) -> bool
     ensures { IsTrue result ↔ Among s segments.now }
 {

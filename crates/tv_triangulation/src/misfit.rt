@@ -10,7 +10,7 @@ use crate::twice::first_twice;
 use tv_lattice::fault::FileFault;
 use tv_spec_plane::records::Triple;
 
-/// The first fault of the edges of turned triangles.
+/// The first fault of the edges of turned triangles: a common edge, one without its back, a bare hull segment.
 pub fn first_misfit(
     turned: &[Triple],
     edges: &[(u32, u32)],

@@ -9,7 +9,7 @@ ghost use Rattle.tv_triangulation.specs.Segments.{precedes, earlier as earlier_o
 
 use crate::edges::contains;
 
-/// The least edge that has no back among the edges and is no hull segment.
+/// The least edge, by its first, then its second point, that has no back among the edges and is no hull segment.
 pub fn first_unmatched(edges: &[(u32, u32)], hull: &[(u32, u32)]) -> Option<(u32, u32)>
     ensures { MatchOption result (NoPair (IsUnmatched (IsListedIn hull.now) edges.now)) (λ p. IsFirstPair (IsUnmatched (IsListedIn hull.now) edges.now) p.0 p.1) }
 {
@@ -22,7 +22,7 @@ pub fn first_unmatched(edges: &[(u32, u32)], hull: &[(u32, u32)]) -> Option<(u32
     first
 }
 
-/// The least hull segment that is no edge.
+/// The least hull segment, by its first, then its second point, that is no edge.
 pub fn first_bare(edges: &[(u32, u32)], hull: &[(u32, u32)]) -> Option<(u32, u32)>
     ensures { MatchOption result (NoPair (IsBare (IsListedIn hull.now) edges.now)) (λ p. IsFirstPair (IsBare (IsListedIn hull.now) edges.now) p.0 p.1) }
 {

@@ -22,7 +22,8 @@ use tv_spec_plane::records::Triple;
 /// The points with the turned triangles, or the first check that fails: equal points, a point that isn't there, points
 /// on one line, a doubled area that isn't 1, a directed edge of two triangles, an edge that has no back and is no hull
 /// segment, a hull segment that is no edge. So unimodular triangles over distinct points that are not on one line are
-/// accepted exactly where they tile the hull.
+/// accepted exactly where they tile the hull. The least triangle or pair with the fault is named; want of memory may come at
+/// any time.
 pub fn triangulate(
     alloc: Global,
     points: &[Point],

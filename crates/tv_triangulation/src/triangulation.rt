@@ -37,13 +37,14 @@ impl Triangulation {
         Triangulation { points, triangles }
     }
 
+    /// The points in the file's order, distinct and not all on one line.
     pub fn points(&self) -> &[Point]
         ensures { result.now ≡ self.now.points }
     {
         &self.points
     }
 
-    /// In the file's order, a clockwise triangle with its last two points exchanged.
+    /// The triangles in the file's order, each by the numbers of its points; a clockwise one has its last two exchanged.
     pub fn triangles(&self) -> &[Triple]
         ensures { result.now ≡ self.now.triangles }
     {

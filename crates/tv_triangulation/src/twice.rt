@@ -10,7 +10,7 @@ ghost use Rattle.tv_triangulation.specs.Checks.{IsShared, IsTwice, NoPair};
 use crate::edges::{contains, sides_of};
 use tv_spec_plane::records::Triple;
 
-/// The first pair of triangles with a directed edge in common.
+/// The first pair of triangles, by the lesser and then the greater number, with a directed edge in common.
 pub fn first_twice(triangles: &[Triple]) -> Option<(u32, u32)>
     requires { length triangles.now ≤ 128 }
     ensures { MatchOption result (NoPair (IsTwice triangles.now)) (λ p. IsFirstPair (IsTwice triangles.now) p.0 p.1) }

@@ -8,7 +8,7 @@ use crate::triples;
 use std::alloc::{AllocError, Global};
 use tv_spec_plane::records::{CompactEdge, Corner, EdgeRef, OuterEdge, Triple};
 
-/// The corners of the triangles, in their order.
+/// The corners of the triangles, in their order. It errs only for want of memory.
 pub fn corners_of(
     alloc: Global,
     triangles: &[Triple],

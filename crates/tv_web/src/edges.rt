@@ -14,11 +14,13 @@ use tv_spec_plane::records::{CompactEdge, OuterEdge, Triple};
 /// Both lists of edges.
 #[derive(Drop)]
 pub struct Edges {
+    /// The edges of two triangles, by the lesser, then by the greater number of their points.
     pub compact: Vec<CompactEdge>,
+    /// The edges of one triangle, in the same order.
     pub outer: Vec<OuterEdge>,
 }
 
-/// The edges among so many points.
+/// The edges among the first `count` points.
 pub fn edges_of(alloc: Global, triangles: &[Triple], count: u32) -> Result<Edges, AllocError>
     requires few_triangles { length triangles.now ≤ 128 }
     requires few_points { count ≤ 64 }

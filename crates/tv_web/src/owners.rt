@@ -9,9 +9,13 @@ use tv_spec_plane::records::Triple;
 /// How many triangles, and which.
 #[derive(Clone, Copy, Debug, PartialEq, Eq)]
 pub enum Found {
+    /// None.
     Nothing,
+    /// One, by its number.
     One(u32),
+    /// Two, by their numbers, the lesser first.
     Two(u32, u32),
+    /// Three or more.
     More,
 }
 

@@ -6,6 +6,7 @@ ghost use Rattle.tv_spec_plane.specs.Web.{has, opposite, rising};
 
 use tv_spec_plane::records::Triple;
 
+/// Triangle t of the list, counted from 0, or one of point 0 alone past its end.
 pub fn triangle_at(triangles: &[Triple], t: u32) -> Triple
     ensures { result ≡ triangle_at triangles.now t }
 {
@@ -15,13 +16,14 @@ pub fn triangle_at(triangles: &[Triple], t: u32) -> Triple
     }
 }
 
+/// Whether a is one of the triangle's points.
 pub fn has(t: Triple, a: u32) -> bool
     ensures { result ≡ has t a }
 {
     t.a == a || (t.b == a || t.c == a)
 }
 
-/// The point beside a and b.
+/// The triangle's point beside a and b.
 pub fn opposite(t: Triple, a: u32, b: u32) -> u32
     ensures { result ≡ opposite t a b }
 {

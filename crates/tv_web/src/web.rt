@@ -36,7 +36,7 @@ impl Model for Web {
     ghost invariant = { λ w. IsBuilt (bare_web w.points.items w.triangles.items) w.compact.items w.outer.items w.corners.items × IsRuled (bare_web w.points.items w.triangles.items) };
 }
 
-/// The web of the points and the turned triangles.
+/// The web of the points and the turned triangles. It errs only for want of memory.
 pub fn build_web(alloc: Global, triangulation: Triangulation) -> Result<Web, AllocError>
     ensures { IfOk result (λ web. web ≡ bare_web triangulation.points triangulation.triangles) }
 {
@@ -54,6 +54,7 @@ pub fn build_web(alloc: Global, triangulation: Triangulation) -> Result<Web, All
 }
 
 impl Web {
+    /// The points, in the order of the triangulation: their numbers are those that triangles and edges name.
     pub fn points(&self) -> &[Point]
         ensures value { result.now ≡ self.now.points }
         ensures few { length result.now ≤ 64 }
@@ -61,6 +62,7 @@ impl Web {
         &self.points
     }
 
+    /// The triangles, turned counter-clockwise, in the order of the triangulation.
     pub fn triangles(&self) -> &[Triple]
         ensures value { result.now ≡ self.now.triangles }
         ensures few { length result.now ≤ 128 }
@@ -68,7 +70,7 @@ impl Web {
         &self.triangles
     }
 
-    /// The edges of two triangles, in the order of their points.
+    /// The edges of two triangles, in the order of their points: by the lesser, then by the greater number.
     pub fn compact(&self) -> &[CompactEdge]
         ensures value { result.now ≡ compact self.now }
         ensures few { length result.now ≤ 4096 }
@@ -76,7 +78,7 @@ impl Web {
         &self.compact
     }
 
-    /// The edges of one triangle, in the order of their points.
+    /// The edges of one triangle, in the same order.
     pub fn outer(&self) -> &[OuterEdge]
         ensures value { result.now ≡ outer self.now }
         ensures few { length result.now ≤ 4096 }
@@ -84,7 +86,7 @@ impl Web {
         &self.outer
     }
 
-    /// One for each triangle, in their order.
+    /// The corners, one for each triangle, in their order: torus fixed points of the threefold.
     pub fn corners(&self) -> &[Corner]
         ensures { result.now ≡ corners self.now }
     {
