@@ -1,4 +1,12 @@
 -- The laws of sums and products of whole numbers, each read as the difference of its upper and its lower part.
+--
+--   +ℤ_comm, *ℤ_comm      == sums and products do not depend on the order
+--   +ℤ_assoc, *ℤ_assoc    == nor on the brackets
+--   +ℤ-zero, *ℤ-one       == a number and 0 add up to the number, and times 1 it is the number
+--   +ℤ-neg                == a number and its negative add up to 0
+--   *ℤ-+ℤ                 == a product with a sum is the sum of the products
+--   unsigned_abs-neg      == a number and its negative have the same absolute value
+--   unsigned_abs-+ℤ       == the absolute value of a sum is at most the sum of the absolute values
 use Rattle.std.proofs.Common.{◌≡◌, ◌+◌, ◌*◌, ◌≤◌, ℤ, pos, ◌+ℤ◌, ◌*ℤ◌, neg_ℤ, unsigned_abs, ap, arith, mul_assoc, mul-add, add-mul, mul_comm}
 use Rattle.std.proofs.lemmas.Int.{ints}
 use borrow.Author.Differences.{up, down, same_in, sum_is_lem, product_is}

@@ -1,4 +1,8 @@
 -- The remainders modulo a number are a ring.
+--
+--   least m x          == the remainder of x is a least remainder
+--   residue_laws m     == the laws of a ring, for least remainders
+--   residue_sizes m    == the laws of sizes and reaches, for least remainders
 use Rattle.std.proofs.Common.{◌≡◌, ℕ, ◌+◌, ◌-◌, ◌*◌, ◌%◌, ◌<◌, refl, sym, ◌∙◌, ap, arith, ◌==◌, true, mod-eq_of_lt, mul_comm, mul_assoc, mul-add, mul-one}
 use Rattle.std.proofs.lemmas.Nat.{mul-mod_first, mod_below}
 use Rattle.std.proofs.Math.Nat.{mod-add-mod, add-mod-mod, mod_self}

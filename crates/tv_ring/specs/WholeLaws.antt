@@ -1,4 +1,7 @@
 -- The whole numbers are a ring.
+--
+--   whole_laws     == the laws of a ring, for whole numbers
+--   whole_sizes    == the laws of sizes and reaches, for whole numbers
 use Rattle.std.proofs.Common.{◌≡◌, ℕ, ℤ, pos, unsigned_abs, refl, arith, ◌==◌, true, le_of_eq}
 use Rattle.std.proofs.lemmas.Int.{ints, unsigned_abs-mul}
 use Rattle.std.proofs.lemmas.Bool.Decides.{nat_tests}

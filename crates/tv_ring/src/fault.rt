@@ -1,5 +1,5 @@
-// Why an operation of a ring gives no value.
-// Which operation gives which fault is said where the operation is.
+//! Why an operation of a ring gives no value.
+//! Which operation gives which fault is said where the operation is.
 
 use std::alloc::{AllocError, AllocFailed};
 use thiserror::Error;

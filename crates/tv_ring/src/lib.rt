@@ -1,5 +1,5 @@
-// Commutative rings with one, as a trait with its laws, and two of them: whole numbers and remainders.
-// It knows of no series or polynomial, only of the sizes and reaches that those have to bound.
+//! Commutative rings with one, as a trait with its laws, and two of them: whole numbers and remainders.
+//! It knows of no series or polynomial, only of the sizes and reaches that those have to bound.
 #![tactic(auto)]
 
 mod fault;

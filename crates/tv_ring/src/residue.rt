@@ -1,5 +1,5 @@
-// Remainders modulo a number, as a ring.
-// A sum or a product is reduced, and so never too wide.
+//! Remainders modulo a number, as a ring.
+//! A sum or a product is reduced, and so never too wide.
 
 ghost use Rattle.std.specs.Prelude.{◌≡◌, ◌%◌, ◌<◌, ◌+◌, ◌*◌, ◌-◌, IsOk, IfOk, IsErrOf, IsOkUnless};
 ghost use Rattle.tv_ring.specs.Operations.{limit};

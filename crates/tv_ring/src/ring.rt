@@ -1,5 +1,5 @@
-// The trait of a ring whose values are kept by a program, with the laws that each impl proves.
-// It asks for no subtraction, order or division: what counts is exact answers and bounded sizes.
+//! The trait of a ring whose values are kept by a program, with the laws that each impl proves.
+//! It asks for no subtraction, order or division: what counts is exact answers and bounded sizes.
 
 ghost use Rattle.std.specs.Prelude.{◌≡◌, ◌≢◌, ◌+◌, ◌-◌, ◌*◌, ◌^◌, ◌<◌, ◌≤◌, ◌↔◌, IsTrue, IfOk, IsErrOf, IsOkUnless};
 ghost use Rattle.tv_ring.specs.Operations.{Operations, RingLaws, SizeLaws, limit, reach_limit};
@@ -63,7 +63,9 @@ pub trait Ring: Sized + Drop {
     fn known(&self)
         ensures value { IsValue self.now };
 
+    /// The values are a commutative ring with one.
     ghost laws: { RingLaws IsValue ring };
 
+    /// Sizes and reaches of sums, products and negatives are bounded by those of their parts.
     ghost sizes: { SizeLaws IsValue ring };
 }

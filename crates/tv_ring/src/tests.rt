@@ -1,5 +1,5 @@
-// Values from outside, each call of the trait once at a concrete type through its bound, and each fault.
-// What the contracts say is not tried again.
+//! Values from outside, each call of the trait once at a concrete type through its bound, and each fault.
+//! What the contracts say is not tried again.
 
 ghost use Rattle.std.specs.Prelude.{◌≡◌};
 

@@ -1,5 +1,5 @@
-// Whole numbers of absolute value at most 2^127 - 1, as a ring.
-// A result that is greater is refused, never reduced.
+//! Whole numbers of absolute value at most 2^127 - 1, as a ring.
+//! A result that is greater is refused, never reduced.
 
 ghost use Rattle.std.specs.Prelude.{◌≡◌, ◌≢◌, ◌+◌, ◌-◌, ◌*◌, ◌^◌, ◌<◌, ◌≤◌, ◌↔◌, IsTrue, IsOk, IsNone, IfOk, IfSome, IsErrOf, IsOkUnless, pos, negsuc, unsigned_abs, ◌+ℤ◌, ◌*ℤ◌, neg_ℤ};
 ghost use Rattle.tv_ring.specs.Operations.{limit, reach_limit};

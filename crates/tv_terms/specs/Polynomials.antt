@@ -3,7 +3,7 @@
 --   onto r x ys            == the list ys after x, and no list where ys is empty and x is nought
 --   trimmed r xs           == the list without the noughts at its end
 --   normal r low xs        == these coefficients from low on, without the noughts at both ends; zero begins at 0
---   IsPoly IsValue r p     == p has a value at each place, and none that is nought at either end
+--   IsPoly IsValue r p     == each coefficient of p is a value, that at either end is not nought, and zero begins at 0
 --   poly_zero, poly_one r  == zero, and one
 --   poly_sum r p q         == the sum
 --   poly_product r p q     == the product
@@ -13,8 +13,8 @@
 --   row_size r xs          == the sum of the sizes of the coefficients xs
 --   reach_at r low f k     == the absolute exponent low + k and the reach of the coefficient there, 0 where that is nought
 --   greatest_below f n     == the greatest of f 0, f 1, .., f (n - 1), and 0 of none
---   poly_reach r p         == the greatest of these, 0 for zero
---   IsKept IsValue r p     == p is in normal form, and its reach is at most 2^60
+--   poly_reach r p         == the greatest reach_at over the places of p, 0 for zero
+--   IsKept IsValue r p     == p is in normal form, and its reach and its exponents are within 2^60
 --   polynomials r          == the operations on polynomials over r
 use Rattle.std.specs.Prelude.{◌≡◌, ℕ, zero, suc, ◌+◌, ◌-◌, ◌<◌, ◌≤◌, max, ℤ, pos, ◌+ℤ◌, unsigned_abs, Bool, true, false, if◌then◌else◌, List, [], ◌∷◌, length}
 use Rattle.std.specs.Int.{int_min}

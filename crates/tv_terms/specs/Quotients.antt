@@ -1,6 +1,6 @@
 -- Quotients of series by a series that begins with one.
 --
---   owed r d g k          == g 1 * d (k - 1) + .. + g k * d 0
+--   owed r d g k          == d 0 * g k + .. + d (k - 1) * g 1
 --   quotients r f g n     == the list d 0, .., d (n - 1), where d k == f k - owed r d g k
 --   quotient_upto a b     == min(upto a, low a + upto b)
 --   series_quotient r a b == the quotient of a by b, which begins at low a and is known through quotient_upto a b

@@ -1,5 +1,5 @@
-// The laws of series and polynomials, as calls that do nothing and whose contracts are the laws.
-// They speak of the same sums and products as the contracts of the calls do.
+//! The laws of series and polynomials, as calls that do nothing and whose contracts are the laws.
+//! They speak of the same sums and products as the contracts of the calls do.
 
 ghost use Rattle.tv_ring.specs.Operations.{RingLaws, SizeLaws};
 ghost use Rattle.tv_terms.specs.Polynomials.{IsPoly, polynomials};
@@ -13,7 +13,8 @@ pub fn sums_and_products_of_series<C: Ring>()
     ensures laws { SeriesLaws C.IsValue C.ring }
 {}
 
-/// The quotient of a series by one that begins with one times that series is the dividend, as far as the quotient is known, and no other series is.
+/// A quotient times its divisor, which begins with one, is the dividend as far as the quotient is known, and no other series is;
+/// a product divided by its second factor is the first.
 pub fn quotients_of_series<C: Ring>()
     ensures product { QuotientTimesDivisor C.IsValue C.ring }
     ensures undoes { DivisionUndoes C.IsValue C.ring }
