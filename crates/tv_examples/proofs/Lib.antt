@@ -1,3 +1,4 @@
 pub mod Squares
 pub mod Sides
 pub mod Diagonals
+mod Edges

@@ -1,4 +1,4 @@
-//! Examples of the definitions that take a proof of their own, as laws. There is no program code here.
+//! Examples of the definitions: laws of single tilings, and worked values of edges. There is no program code here.
 #![tactic(auto)]
 
 pub mod laws;

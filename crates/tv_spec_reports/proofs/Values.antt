@@ -12,7 +12,7 @@ use Rattle.tv_cells.specs.Costs.{row_cost, rows_cost, overlap_cost, overlaps}
 use Rattle.tv_spec_boxes.specs.Assignments.{assignments, choices}
 use Rattle.tv_spec_boxes.specs.Configurations.{fillings}
 use Rattle.tv_spec_text.specs.Lines.{line_text}
-use Rattle.tv_spec_text.specs.Reports.{Term, Section}
+use Rattle.tv_spec_text.specs.Reports.{Term, Section, series_text}
 use Rattle.tv_spec_reports.specs.Integers.{GvSection, gv_text}
 use Rattle.tv_spec_reports.specs.Boxes.{boxes_text}
 use Rattle.tv_spec_reports.specs.Grids.{grid_text}
@@ -25,6 +25,14 @@ two_boxes = refl
 
 term : ℤ → ℤ → Term
 term n v = record { exponent = n; coefficient = v }
+
+-- the full series of one corner through order 4
+corner_section : Section
+corner_section = record { degree = pos 0; entries = pos 0 ∷ pos 0 ∷ pos 0 ∷ []; terms = term (pos 0) (pos 1) ∷ term (pos 1) (negsuc 0) ∷ term (pos 2) (pos 3) ∷ term (pos 3) (negsuc 5) ∷ term (pos 4) (pos 13) ∷ [] }
+
+corner_report : series_text (codes "full") (pos 0 ∷ pos 0 ∷ pos 0 ∷ []) (pos 0) (pos 4) (corner_section ∷ []) ≡ codes "report series full\nheights 0 0 0\ndegree 0\nupto 4\nclass 0 0 0 0\nterm 0 1\nterm 1 -1\nterm 2 3\nterm 3 -6\nterm 4 13\nend\n"
+unfolding line_text digits corner_section term
+corner_report = refl
 
 conifold_sections : List GvSection
 conifold_sections =
