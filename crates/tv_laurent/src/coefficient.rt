@@ -1,5 +1,5 @@
-// What a series tells of one exponent.
-// It lends the coefficient, and makes no zero where there is none.
+//! What a series tells of one exponent.
+//! It lends the coefficient, and makes no zero where there is none.
 
 /// A coefficient of a series at an exponent.
 #[derive(Drop)]

@@ -1,10 +1,10 @@
-// Distances between exponents.
-// They are bounded, so that none of them overflows.
+//! Distances between exponents.
+//! They are bounded, so that none of them overflows.
 
 ghost use Rattle.std.specs.Prelude.{◌≡◌, ◌≤◌, ◌^◌, ◌≤ℤ◌};
 ghost use Rattle.tv_terms.specs.Terms.{above, IsWithin};
 
-// How many exponents there are from one up to another.
+/// How many exponents there are from one up to another.
 pub(crate) fn places(from: i64, to: i64) -> usize
     requires from { IsWithin from }
     requires to { IsWithin to }

@@ -1,5 +1,5 @@
-// Why an operation of a series gives no series, with the exponent where that is.
-// It names no number: the contract of each call says which one is too wide there.
+//! Why an operation of a series gives no series, with the exponent where that is.
+//! It names no number: the contract of each call says which one is too wide there.
 
 ghost use Rattle.std.specs.Prelude.{◌≡◌};
 ghost use Rattle.tv_laurent.specs.Faults.{fault_of, IsWithoutExponent};

@@ -1,5 +1,5 @@
-// Truncated Laurent series and Laurent polynomials over any ring, with exact sums and products.
-// It knows of no classes, no webs and no text.
+//! Truncated Laurent series and Laurent polynomials over any ring, with exact sums, products and quotients.
+//! It knows of no classes, no webs and no text.
 #![tactic(auto)]
 
 mod coefficient;

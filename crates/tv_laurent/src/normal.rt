@@ -1,5 +1,5 @@
-// The zeros at both ends of a row of coefficients.
-// It finds them, and leaves it to its callers to take them away.
+//! The zeros at both ends of a row of coefficients.
+//! It finds them, and leaves it to its callers to take them away.
 
 ghost use Rattle.std.specs.Prelude.{◌≡◌, ◌≢◌, ℕ, ◌-◌, ◌<◌, ◌≤◌, length};
 ghost use Rattle.tv_ring.specs.Sums.{at};

@@ -1,5 +1,5 @@
-// Laurent polynomials in normal form, as a ring over any ring.
-// A polynomial keeps no zero at either end, so that equal polynomials are kept alike.
+//! Laurent polynomials in normal form, as a ring over any ring.
+//! A polynomial keeps no zero at either end, so that equal polynomials are kept alike.
 
 ghost use Rattle.std.specs.Prelude.{◌≡◌, ℕ, ◌+◌, ◌-◌, ◌^◌, ◌<◌, ◌≤◌, ◌≤ℤ◌, ◌<ℤ◌, ◌⊎◌, ◌∷◌, [], IfOk, IsErrOf, IsOkUnless, IsTrue, ◌↔◌, MatchOption, length, unsigned_abs, pos, ◌+ℤ◌};
 ghost use Rattle.tv_ring.specs.Operations.{limit, reach_limit};

@@ -1,5 +1,5 @@
-// Products of two rows of coefficients, and of one row with a factor.
-// A coefficient of a product goes once over the pairs of coefficients that meet in it.
+//! Products of two rows of coefficients, and of one row with a factor.
+//! A coefficient of a product goes once over the pairs of coefficients that meet in it.
 
 ghost use Rattle.std.specs.Prelude.{◌≡◌, ◌+◌, ◌^◌, ◌<◌, ◌≤◌, IfOk, IfErr, IsErrOf, length};
 ghost use Rattle.tv_ring.specs.Operations.{limit};

@@ -1,5 +1,5 @@
-// Truncated Laurent series over a ring: dense coefficients from a lowest exponent on.
-// It knows of no classes and no degrees, and keeps zeros as they are.
+//! Truncated Laurent series over a ring: dense coefficients from a lowest exponent on.
+//! It knows of no classes and no degrees, and keeps zeros as they are.
 
 ghost use Rattle.std.specs.Prelude.{◌≡◌, ◌+◌, ◌-◌, ◌<◌, ◌≤◌, ◌+ℤ◌, ◌≤ℤ◌, ◌^◌, pos, min, length, IfOk, IfErr};
 ghost use Rattle.tv_ring.specs.Sums.{at, AreValues};

@@ -1,5 +1,5 @@
-// Sums of two rows of coefficients, of which one may begin later than the other.
-// It works on slices, and leaves exponents to its callers.
+//! Sums of two rows of coefficients, of which one may begin later than the other.
+//! It works on slices, and leaves exponents to its callers.
 
 ghost use Rattle.std.specs.Prelude.{◌≡◌, ◌+◌, ◌^◌, ◌<◌, ◌≤◌, IfOk, IfErr, IsErrOf, MatchOption};
 ghost use Rattle.tv_ring.specs.Operations.{limit};

@@ -1,5 +1,5 @@
-// Values from outside, each call once with ample memory through a bound, and each fault.
-// What the contracts say is not tried again.
+//! Values from outside, each call once with ample memory through a bound, and each fault.
+//! What the contracts say is not tried again.
 
 ghost use Rattle.std.specs.Prelude.{◌≡◌};
 ghost use Rattle.tv_laurent.specs.QuotientCalls.{QuotientReaches};
