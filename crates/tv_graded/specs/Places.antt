@@ -1,8 +1,9 @@
 -- Where a class stands among sorted rows.
 --
 -- HaveEntries n rows      == each row's class has n entries
--- class_at rows k         == the class of row k
--- is_at v rows k          == whether row k has the class v
+-- class_at rows k         == the class of row k, without entries where there is no such row
+-- has_class v found       == whether a row was found, and has the class v
+-- is_at v rows k          == whether row k is there, and has the class v
 -- IsPlace hs v rows place == the rows that come before v are those in front of that place
 use Rattle.std.specs.Prelude.{◌≡◌, ℕ, ◌<◌, ◌≤◌, ℤ, Bool, true, false, List, [], length, Option, Some, None, slice_get, slice_index_or}
 use Rattle.std.specs.List.{AllByRecursion}

@@ -7,7 +7,10 @@ use tv_ring::Ring;
 /// A class of a family, its degree and its series.
 #[derive(Drop)]
 pub struct Entry<'a, C: Ring> {
+    /// The class.
     pub class: &'a Class,
+    /// Its degree, by the family's heights.
     pub degree: i64,
+    /// Its series.
     pub series: &'a Series<C>,
 }

@@ -46,7 +46,7 @@ impl<C: Ring> Model for Graded<C> {
 }
 
 impl<C: Ring> Graded<C> {
-    /// The family that has no class yet. It takes no memory.
+    /// The family that has no class yet. It takes no memory. The exponent `upto` is at most 2^60 in absolute value.
     pub fn new(alloc: Global, heights: Vec<i64>, top: i64, upto: i64) -> Graded<C>
         requires small { AllByRecursion IsHeight heights.items }
         requires within { IsWithin upto }

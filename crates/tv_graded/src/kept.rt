@@ -8,6 +8,7 @@ use tv_lattice::class::Class;
 use tv_laurent::Series;
 use tv_ring::Ring;
 
+/// A row of a family: a class and its series.
 #[derive(Drop)]
 pub struct Kept<C: Ring> {
     class: Class,
@@ -23,18 +24,21 @@ impl<C: Ring> Model for Kept<C> {
 }
 
 impl<C: Ring> Kept<C> {
+    /// The row of this class with this series. It takes no memory.
     pub fn new(class: Class, series: Series<C>) -> Kept<C>
         ensures value { result ≡ row class series }
     {
         Kept { class, series }
     }
 
+    /// The row's class.
     pub fn class(&self) -> &Class
         ensures value { result.now ≡ self.now.class }
     {
         &self.class
     }
 
+    /// The series of its class.
     pub fn series(&self) -> &Series<C>
         ensures value { result.now ≡ self.now.series }
     {
