@@ -12,7 +12,7 @@ use Rattle.tv_spec_boxes.specs.Numbers.{lowest, box_bound, crowd_on, sum_of, cro
 use Rattle.tv_gluing.proofs.Degrees.{same_vector-eq}
 use Rattle.tv_reduced_laws.proofs.ZeroClass.{nothing, assignments-none, class_on-nothing}
 use Rattle.tv_reduced_laws.proofs.ZeroCrowd.{zero_crowd}
-use Rattle.tv_reduced.specs.Faults.{IsCrowded}
+use Rattle.tv_glue.specs.Faults.{IsCrowded}
 
 -- of another class than zero there is none in degree 0
 other_none : (w : Web) (v : List ℤ) (b : Bool) → weight (degree_of w.heights v) ≡ 0 → same_vector (class_of w (nothing (compact w))) v ≡ false → assignments_of w v ≡ []

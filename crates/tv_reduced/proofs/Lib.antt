@@ -6,3 +6,4 @@ pub mod Crowds
 pub mod Reaches
 pub mod LowestBound
 pub mod Divisions
+pub mod Exponents

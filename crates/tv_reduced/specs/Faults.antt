@@ -1,7 +1,7 @@
 -- Why there is no family of reduced series.
 --
--- IsCrowded r w d n v      == the crowd of the class, times the size of one, exceeds the limit
--- IsSpreadOut r w d n v m  == the class is one of degree at most d, and so does its spread at the exponent m, of at most n
+-- IsSpreadOut r w d n v m  == some assignment of degree at most d has the class v, and the spread of v at the exponent m, of
+--                             at most n, times the size of one, exceeds the limit
 -- OnCrowd fault P          == P holds of the class of a fault that is Crowd, and the fault is no Spread
 -- OnSpread fault P         == P holds of the class and the exponent of a fault that is Spread, and the fault is no Crowd
 -- IsReducedFault r w d n e == e names a class whose crowd is too wide, or a class and an exponent at which the spread is, or
@@ -11,13 +11,10 @@ use Rattle.tv_ring.specs.Operations.{Operations, limit}
 use Rattle.tv_spec_plane.specs.Web.{Web}
 use Rattle.tv_spec_boxes.specs.Assignments.{no_legs}
 use Rattle.tv_spec_boxes.specs.Classes.{IsClass}
-use Rattle.tv_spec_boxes.specs.Numbers.{crowd}
 use Rattle.tv_spec_series.specs.Reduced.{IsSpread}
+use Rattle.tv_glue.specs.Faults.{IsCrowded}
 use Rattle.tv_reduced.specs.declared.fault.ReducedFault.{ReducedFault}
 use Rattle.tv_reduced.specs.declared.fault.ReducedFault.TheVariants.{Crowd, Spread, Memory}
-
-abbrev pub IsCrowded : {A : Type 0} → Operations A → Web → ℕ → ℤ → List ℤ → Type 0
-IsCrowded r w d n v = limit < crowd w (no_legs w) d n v * r.size r.unit
 
 pub record IsSpreadOut {A : Type 0} (r : Operations A) (w : Web) (d : ℕ) (n : ℤ) (v : List ℤ) (m : ℤ) : Type 0 where
   pub class : IsClass w d v

@@ -1,6 +1,7 @@
 -- How far the series of class zero has to be known.
 --
 -- StartsFrom low x    == the row's series starts at low or above
+-- ReachedBy n k x     == k reaches from the low of the row's series to n
 -- IsOrder n rows k    == k is at least 0, reaches from the low of each row to n, and is no greater than that asks
 use Rattle.std.specs.Prelude.{ℤ, pos, ◌+ℤ◌, ◌-ℤ◌, ◌≤ℤ◌, List}
 use Rattle.std.specs.List.{AllByRecursion}

@@ -7,7 +7,8 @@ ghost use Rattle.tv_spec_series.specs.Families.{coefficient};
 ghost use Rattle.tv_degrees.specs.Grades.{IsGraded};
 ghost use Rattle.tv_glue_laws.specs.Full.{IsFull};
 ghost use Rattle.tv_reduced_laws.specs.Families.{IsDivisor};
-ghost use Rattle.tv_reduced.specs.Faults.{OnCrowd, IsCrowded};
+ghost use Rattle.tv_glue.specs.Faults.{IsCrowded};
+ghost use Rattle.tv_reduced.specs.Faults.{OnCrowd};
 ghost use Rattle.tv_reduced.specs.Divisors.{counted, from_zero};
 
 use crate::fault::ReducedFault;

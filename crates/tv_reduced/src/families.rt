@@ -10,7 +10,8 @@ ghost use Rattle.tv_spec_series.specs.Families.{divided};
 ghost use Rattle.tv_graded.specs.Calls.{IsDividedWide};
 ghost use Rattle.tv_glue_laws.specs.Full.{IsFull};
 ghost use Rattle.tv_reduced_laws.specs.Families.{IsReducedFamily};
-ghost use Rattle.tv_reduced.specs.Faults.{IsReducedFault, OnCrowd, OnSpread, IsCrowded};
+ghost use Rattle.tv_glue.specs.Faults.{IsCrowded};
+ghost use Rattle.tv_reduced.specs.Faults.{IsReducedFault, OnCrowd, OnSpread};
 
 use crate::divisor::divisor;
 use crate::fault::ReducedFault;
