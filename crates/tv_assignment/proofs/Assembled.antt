@@ -1,5 +1,5 @@
 -- The series of an assignment, put together.
-use Rattle.std.proofs.Common.{◌≡◌, ℕ, suc, ◌+◌, ◌^◌, ◌<◌, ◌≤◌, List, [], length, refl, sym, ◌∙◌, ap, arith, Bool, true, false, cond, w64, to_z, of_z}
+use Rattle.std.proofs.Common.{◌≡◌, ℕ, suc, ◌+◌, ◌^◌, ◌≤◌, List, [], length, refl, sym, ◌∙◌, ap, arith, true, false, w64, to_z, of_z}
 use Rattle.std.specs.Int.Signed.{lt_z}
 use Rattle.std.specs.Prelude.{ℤ, pos, ◌+ℤ◌, ◌-ℤ◌, ◌≤ℤ◌, ◌<ℤ◌, unsigned_abs}
 use Rattle.std.specs.Int.{int_min}
@@ -7,11 +7,10 @@ use Rattle.std.proofs.lemmas.Int.{ints}
 use Rattle.tv_ring.specs.Operations.{Operations, RingLaws}
 use Rattle.tv_terms.specs.Terms.{Terms, terms, above, listed, IsBounded}
 use Rattle.tv_terms.proofs.Exponents.{above_same, above_adds}
-use Rattle.tv_terms.proofs.Listed.{length-listed, listed-none}
+use Rattle.tv_terms.proofs.Listed.{listed-none}
 use Rattle.tv_spec_plane.specs.Web.{Web}
 use Rattle.tv_cells.specs.declared.legs.Legs.{Legs}
 use Rattle.tv_spec_boxes.specs.Assignments.{Rows, Assignment, all_legs, edge_costs, edge_twist, overlaps_of}
-use Rattle.tv_spec_boxes.specs.Configurations.{boxes_left}
 use Rattle.tv_gluing.specs.Ways.{start_of}
 use Rattle.tv_assignment.specs.Terms.{signed_times, signed, first_exponent, assignment_terms, front_times, front_terms, IsBeyond, IsTooMany}
 use Rattle.tv_assignment.proofs.WithSigns.{signed-are}

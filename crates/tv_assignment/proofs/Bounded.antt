@@ -1,7 +1,7 @@
 -- How far from 0 the costs of one edge and of one corner are.
-use Rattle.std.proofs.Common.{◌≡◌, ℕ, zero, suc, ◌+◌, ◌-◌, ◌*◌, ◌<◌, ◌≤◌, List, [], ◌∷◌, ◌++◌, length, map, refl, sym, ap, ◌∙◌, arith, le_trans, le_of_eq, length-append, suc-mul, mul_comm, Bool, true, false, w64}
+use Rattle.std.proofs.Common.{◌≡◌, ℕ, zero, suc, ◌+◌, ◌-◌, ◌*◌, ◌≤◌, List, [], ◌∷◌, ◌++◌, length, refl, ap, ◌∙◌, arith, le_trans, le_of_eq, length-append, suc-mul, mul_comm, Bool, true, false, w64}
 use mir.Val.{to_z, of_z}
-use Rattle.std.specs.Prelude.{ℤ, pos, negsuc, neg_ℤ, ◌+ℤ◌, ◌-ℤ◌, ◌*ℤ◌, ◌≤ℤ◌, unsigned_abs, nat_abs}
+use Rattle.std.specs.Prelude.{ℤ, pos, negsuc, ◌+ℤ◌, ◌-ℤ◌, ◌*ℤ◌, ◌≤ℤ◌, unsigned_abs, nat_abs}
 use Rattle.std.specs.List.{flat_map}
 use Rattle.std.proofs.lemmas.Int.{ints, unsigned_abs-mul}
 use Rattle.std.proofs.lemmas.List.{length-map}
@@ -11,7 +11,7 @@ use Rattle.tv_partition.proofs.Bounds.{few_rows, short_rows}
 use Rattle.tv_cells.specs.declared.cell.Cell.{Cell}
 use Rattle.tv_cells.specs.declared.legs.Legs.{Legs}
 use Rattle.tv_cells.specs.Cells.{cell, below, numbers_from, x_from, y_from, column, diagonal, falling, cube}
-use Rattle.tv_cells.specs.Extras.{AreDiagrams, bit, legs_at, extent}
+use Rattle.tv_cells.specs.Extras.{bit, legs_at, extent}
 use Rattle.tv_cells.specs.Costs.{row_cost, rows_cost, edge_cost, overlaps, overlap_cost}
 use Rattle.tv_cells.proofs.Bounded.{product_low, product_high, cell_low, cell_high}
 

@@ -1,6 +1,6 @@
 -- What the series of one assignment tells of its coefficients.
-use Rattle.std.proofs.Common.{◌≡◌, ℕ, ◌*◌, ◌<◌, ◌≤◌, Bool, true, false, refl, sym, ap, ◌∙◌, arith, le_trans, inl, inr}
-use Rattle.std.specs.Prelude.{ℤ, pos, negsuc, ◌+ℤ◌, ◌-ℤ◌, ◌*ℤ◌, ◌≤ℤ◌, ◌<ℤ◌, ◌⊎◌, List, length, cond, nat_eq, unsigned_abs, int_lt}
+use Rattle.std.proofs.Common.{◌≡◌, ℕ, ◌*◌, ◌<◌, ◌≤◌, Bool, true, false, refl, sym, ap, ◌∙◌, arith, inl, inr}
+use Rattle.std.specs.Prelude.{ℤ, pos, negsuc, ◌+ℤ◌, ◌-ℤ◌, ◌*ℤ◌, ◌≤ℤ◌, ◌<ℤ◌, ◌⊎◌, List, cond, nat_eq, unsigned_abs, int_lt}
 use Rattle.std.specs.Int.{int_min}
 use Rattle.std.proofs.lemmas.Int.{ints}
 use Rattle.tv_ring.specs.Operations.{Operations, RingLaws, SizeLaws}
@@ -11,12 +11,12 @@ use Rattle.tv_terms.specs.Terms.{terms, upto, above, listed}
 use Rattle.tv_terms.proofs.Exponents.{above_adds, above_over}
 use Rattle.tv_terms.proofs.Listed.{length-listed, at-listed}
 use Rattle.tv_terms.proofs.SeriesFrom.{value_listed}
-use Rattle.tv_spec_plane.specs.Web.{Web, sign, parity}
+use Rattle.tv_spec_plane.specs.Web.{Web, parity}
 use Rattle.tv_spec_boxes.specs.Assignments.{Rows, Assignment, all_legs, edge_twist}
 use Rattle.tv_spec_boxes.specs.Configurations.{boxes_left}
 use Rattle.tv_spec_series.specs.Families.{coefficient}
 use Rattle.tv_spec_series.proofs.Coefficients.{coefficient_below, coefficient_at}
-use Rattle.tv_gluing.specs.Ways.{ways_at, start_of, assignment_sign, assignment_coefficient}
+use Rattle.tv_gluing.specs.Ways.{ways_at, start_of, assignment_coefficient}
 use Rattle.tv_gluing.proofs.Bounds.{none_below_start}
 use Rattle.tv_assignment.specs.Terms.{signed_times, first_exponent, assignment_terms}
 

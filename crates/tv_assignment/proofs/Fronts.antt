@@ -1,21 +1,21 @@
 -- The product of the series of the first corners: its coefficients, its sizes and its reaches.
-use Rattle.std.proofs.Common.{◌≡◌, ℕ, zero, suc, ◌+◌, ◌-◌, ◌*◌, ◌^◌, ◌<◌, ◌≤◌, min, cond, List, [], ◌∷◌, ◌++◌, length, take, get_or, refl, sym, ◌∙◌, ap, arith, le_trans, add-mul, inl, inr}
+use Rattle.std.proofs.Common.{◌≡◌, ℕ, zero, suc, ◌+◌, ◌-◌, ◌*◌, ◌^◌, ◌<◌, ◌≤◌, min, cond, List, [], length, take, get_or, refl, sym, ◌∙◌, ap, arith, le_trans, add-mul, inl, inr}
 use Rattle.std.specs.Prelude.{ℤ, pos, ◌+ℤ◌, ◌-ℤ◌, unsigned_abs, nat_eq}
 use Rattle.std.specs.Int.{int_min}
 use Rattle.std.proofs.lemmas.Int.{ints}
 use Rattle.std.proofs.lemmas.Nat.{mul-le}
 use Rattle.std.proofs.lemmas.Bool.Decides.{nat_tests}
-use Rattle.tv_ring.specs.Operations.{Operations, RingLaws, SizeLaws, limit, reach_limit}
-use Rattle.tv_ring.specs.Sums.{AreValues, at, convolution, total_below, size_term, size_convolution, times}
+use Rattle.tv_ring.specs.Operations.{Operations, RingLaws, SizeLaws, limit}
+use Rattle.tv_ring.specs.Sums.{at, convolution, total_below, size_term, size_convolution, times}
 use Rattle.tv_ring.proofs.Sums.{total_below-none, total_below-more, total_below-≤}
 use Rattle.tv_ring.proofs.Products.{convolution-same, size_term_is, size_convolution_is}
-use Rattle.tv_ring.proofs.Times.{times-none, times-one, value_times}
+use Rattle.tv_ring.proofs.Times.{times-none, times-one}
 use Rattle.tv_ring.proofs.Sizes.{size-times, reach-times}
-use Rattle.tv_terms.specs.Terms.{Terms, terms, upto, listed, IsWithin}
+use Rattle.tv_terms.specs.Terms.{Terms, listed}
 use Rattle.tv_terms.specs.Series.{series_product, product_upto}
-use Rattle.tv_terms.proofs.Listed.{length-listed, listed-none, at-listed, listed_all, listed_push}
+use Rattle.tv_terms.proofs.Listed.{length-listed, at-listed, listed_all}
 use Rattle.tv_terms.proofs.SeriesFrom.{terms-same}
-use Rattle.tv_laurent.specs.SeriesCalls.{ReachesAddUp, IsWideAt, IsProductWide}
+use Rattle.tv_laurent.specs.SeriesCalls.{ReachesAddUp, IsProductWide}
 use Rattle.tv_cells.specs.declared.legs.Legs.{Legs}
 use Rattle.tv_cells.specs.Extras.{count}
 use Rattle.tv_vertex.specs.Corners.{extras_times, corner_terms}
@@ -23,8 +23,8 @@ use Rattle.tv_vertex.proofs.Corners.{extras_times-is}
 use Rattle.tv_gluing.specs.Ways.{split, spread, corner_ways}
 use Rattle.tv_gluing.proofs.Spreads.{split_is, spread_is}
 use Rattle.tv_gluing.proofs.InRings.{multiples, convolution-multiples}
-use Rattle.tv_gluing.proofs.CornerWays.{front-none, front-next, front-all}
-use Rattle.tv_assignment.specs.Terms.{front_times, front_terms, IsFrontBeyond, IsCornerBeyond, IsBeyond, IsCornerFrom}
+use Rattle.tv_gluing.proofs.CornerWays.{front-none, front-next}
+use Rattle.tv_assignment.specs.Terms.{front_times, front_terms, IsBeyond}
 
 pub front_times-is : {A : Type 0} (r : Operations A) (legs : List Legs) (i : ℕ) → front_times r legs i ≡ times r (corner_ways legs i)
 unfolding front_times

@@ -1,39 +1,23 @@
 -- Series that are kept by the legs of their corners: what is found and what is put in.
-use Rattle.std.proofs.Common.{◌≡◌, ℕ, zero, suc, ◌+◌, ◌<◌, ◌≤◌, Bool, true, false, ◌&&◌, cond, not, List, [], ◌∷◌, map, length, get_or, position, Option, Some, None, nat_eq, refl, sym, ◌∙◌, ap, subst, arith, w64, to_z, of_z}
+use Rattle.std.proofs.Common.{◌≡◌, ℕ, zero, suc, ◌+◌, ◌<◌, Bool, true, false, cond, not, List, [], ◌∷◌, length, get_or, position, Some, refl, sym, ◌∙◌, ap, subst, arith, w64, to_z, of_z}
 use Rattle.std.specs.Int.Signed.{le_z}
 use Rattle.std.specs.Prelude.{ℤ, pos, ◌+ℤ◌, ◌-ℤ◌, ◌≤ℤ◌, slice_get, unsigned_abs}
-use Rattle.std.specs.List.{AllByRecursion, position_or_len}
-use Rattle.std.specs.Cmp.Lexicographic.{pointwise}
+use Rattle.std.specs.List.{position_or_len}
 use Rattle.std.proofs.lemmas.Int.{ints}
 use Rattle.std.proofs.lemmas.List.Quantifiers.{position-Some}
 use Rattle.std.proofs.lemmas.List.{length-map}
-use Rattle.indexmap.specs.IndexMap.{insert_entry, keys, values}
+use Rattle.indexmap.specs.IndexMap.{insert_entry}
 use Rattle.std.specs.Map.{keys_of, values_of}
 use Rattle.tv_ring.specs.Operations.{Operations}
-use Rattle.tv_terms.specs.Terms.{Terms, terms, upto, listed}
+use Rattle.tv_terms.specs.Terms.{Terms, upto}
 use Rattle.tv_terms.proofs.Listed.{length-listed}
 use Rattle.tv_cells.specs.declared.legs.Legs.{Legs}
 use Rattle.tv_vertex.specs.Corners.{extras_times, corner_terms}
-use Rattle.tv_partition.proofs.Members.{same_lists}
-use Rattle.tv_assignment.specs.declared.corners.Key.{Key}
-use Rattle.tv_assignment.specs.contracts.corners.KeyPartialEq.TheImpl.{eq-value}
+use Rattle.tv_assignment.specs.declared.key.Key.{Key}
+use Rattle.tv_assignment.specs.Asked.{same}
 use Rattle.tv_assignment.specs.Terms.{IsCornerFrom}
 use Rattle.tv_assignment.specs.Kept.{legs_by, IsKept, AreKept, IsPlaceOf}
-
-abbrev pub same : Key → Key → Bool
-same = eq-value.it
-
-and-both : (a b : Bool) → a && b ≡ true → (a ≡ true) × (b ≡ true)
-and-both true b e = (refl, e)
-and-both false b e = absurd (let f : false ≡ true = e in cc)
-
--- keys that are found equal have the same legs
-same-legs : (a b : Key) → same a b ≡ true → legs_by a ≡ legs_by b
-same-legs a b e =
-    let first = and-both (pointwise nat_eq a.along_x b.along_x) (pointwise nat_eq a.along_y b.along_y && pointwise nat_eq a.along_z b.along_z) e in
-    let others = and-both (pointwise nat_eq a.along_y b.along_y) (pointwise nat_eq a.along_z b.along_z) first.1 in
-    let x = same_lists a.along_x b.along_x first.0 in let y = same_lists a.along_y b.along_y others.0 in let z = same_lists a.along_z b.along_z others.1 in
-    cc
+use Rattle.tv_assignment.proofs.Inserted.{same-legs, each-insert}
 
 module _ {A : Type 0} (r : Operations A) where
   upto-corner : (legs : Legs) (j : ℕ) → upto (corner_terms r legs j) ≡ pos j
@@ -65,17 +49,9 @@ module _ {A : Type 0} (r : Operations A) where
   computed : (key : Key) (legs : Legs) (k : ℕ) (s : Terms A) → legs_by key ≡ legs → s ≡ corner_terms r legs k → IsKept r (key, s)
   computed key legs k s of is = (k, omega arith, is ∙ ap (λ l. corner_terms r l k) (sym of))
 
-  kept-onto : (b : Bool) (e : Key × Terms A) (es new : List (Key × Terms A)) (key : Key) (s : Terms A) → same key e.0 ≡ b → IsKept r (key, s) → AreKept r (e ∷ es) → AreKept r new → AreKept r (cond b ((e.0, s) ∷ es) (e ∷ new))
-  kept-onto true e es new key s found here kept rest = (subst (λ legs. IsCornerFrom r legs 0 s) (same-legs key e.0 found) here, kept.1)
-  kept-onto false e es new key s found here kept rest = (kept.0, rest)
-
-  kept-insert : (es : List (Key × Terms A)) (key : Key) (s : Terms A) → IsKept r (key, s) → AreKept r es → AreKept r (insert_entry same es key s)
-  kept-insert [] key s here kept = (here, tt)
-  kept-insert (e ∷ es) key s here kept = kept-onto (same key e.0) e es (insert_entry same es key s) key s refl here kept (kept-insert es key s here kept.1)
-
   -- a series that was put in
   pub still-kept : (es new : List (Key × Terms A)) (key : Key) (legs : Legs) (k : ℕ) (s : Terms A) → legs_by key ≡ legs → s ≡ corner_terms r legs k → new ≡ insert_entry same es key s → AreKept r es → AreKept r new
-  still-kept es new key legs k s of is put kept = subst (AreKept r) (sym put) (kept-insert es key s (computed key legs k s of is) kept)
+  still-kept es new key legs k s of is put kept = subst (AreKept r) (sym put) (each-insert (λ of s. IsCornerFrom r of 0 s) es key s (computed key legs k s of is) kept)
 
   inserted-onto : (b : Bool) (e : Key × Terms A) (es new : List (Key × Terms A)) (s : Terms A) (i : ℕ) → slice_get (values_of new) i ≡ Some s → slice_get (values_of (cond b ((e.0, s) ∷ es) (e ∷ new))) (cond (not b) (1 + i) 0) ≡ Some s
   inserted-onto true e es new s i rest = refl
@@ -87,6 +63,10 @@ module _ {A : Type 0} (r : Operations A) where
 
   pub put-place : (es new : List (Key × Terms A)) (key : Key) (legs : Legs) (k i : ℕ) (s : Terms A) → s ≡ corner_terms r legs k → new ≡ insert_entry same es key s → i ≡ position_or_len (same key) (keys_of es) → IsPlaceOf r legs k (values_of new) i
   put-place es new key legs k i s is put at = (s, rw (put, at) (inserted-at es key s), (k, omega arith, is))
+
+  -- what stands at the place of a series
+  pub read-place : (legs : Legs) (k : ℕ) (ss : List (Terms A)) (i : ℕ) (s : Terms A) → IsPlaceOf r legs k ss i → slice_get ss i ≡ Some s → IsCornerFrom r legs k s
+  read-place legs k ss i s place read = let one : place.0 ≡ s = let both : Some place.0 ≡ Some s = sym place.1 ∙ read in cc in subst (IsCornerFrom r legs k) one place.2
 
 pub read_back : (z : ℤ) → unsigned_abs z < 9223372036854775808 → to_z w64 (of_z w64 z) ≡ z
 read_back z h = omega (arith, ints)

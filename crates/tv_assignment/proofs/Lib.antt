@@ -2,7 +2,9 @@ pub mod Coefficients
 pub mod Listed
 pub mod Bounded
 mod Degrees
+mod Inserted
 mod Keeping
+mod Asking
 mod Summed
 mod Written
 mod OpenLegs

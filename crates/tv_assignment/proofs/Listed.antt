@@ -1,16 +1,17 @@
 -- What each listed assignment has: a diagram for each compact edge, and no more cells in all than the degree.
-use Rattle.std.proofs.Common.{◌≡◌, ℕ, zero, suc, ◌+◌, ◌*◌, ◌<◌, ◌≤◌, List, [], ◌∷◌, length, map, arith, refl, le_trans}
+use Rattle.std.proofs.Common.{◌≡◌, ℕ, zero, suc, ◌+◌, ◌*◌, ◌<◌, ◌≤◌, List, [], ◌∷◌, length, arith, le_trans}
 use Rattle.std.specs.Prelude.{Contains}
 use Rattle.std.specs.List.{AllByRecursion}
-use Rattle.tv_spec_plane.specs.Web.{Web, compact, edge_degree}
+use Rattle.tv_spec_plane.specs.Web.{Web, compact}
 use Rattle.tv_partition.specs.Rows.{size}
-use Rattle.tv_spec_boxes.specs.Assignments.{Assignment, assignments, choices, weight}
+use Rattle.tv_spec_boxes.specs.Assignments.{Assignment, assignments}
 use Rattle.tv_degrees.specs.Grades.{IsGraded}
 use Rattle.tv_gluing.specs.Ways.{IsListed}
-use Rattle.tv_gluing.proofs.Lists.{all-contains}
+use Rattle.tv_gluing.proofs.Lists.{all-contains, all-members, all-onto}
 use Rattle.tv_gluing.proofs.Choices.{degree_by, choices_are, IsChoice}
 use Rattle.tv_gluing.proofs.Degrees.{assignments_listed, weights, weights_positive}
 use Rattle.tv_assignment.specs.Terms.{cells_of}
+use Rattle.tv_assignment.specs.Asked.{IsOn}
 
 pub listed-one_each : (w : Web) (d : ℕ) (a : Assignment) → IsGraded w → Contains (assignments w d) a → length a ≡ length (compact w)
 listed-one_each w d a graded among = let is = all-contains (IsListed w d) (assignments w d) a (assignments_listed w d graded) among in is.one_each
@@ -31,3 +32,7 @@ unfolding assignments
 listed-few w d a graded among =
     let is = all-contains (IsChoice (weights w (compact w)) d) (assignments w d) a (choices_are (weights w (compact w)) d) among in
     le_trans (cells-few (weights w (compact w)) a (weights_positive w (compact w) graded) is.one_each) is.within
+
+pub listed-on : (w : Web) (d : ℕ) → IsGraded w → d ≤ 24 → AllByRecursion (IsOn w) (assignments w d)
+listed-on w d graded few =
+    all-onto (Contains (assignments w d)) (IsOn w) (λ a among. record { one_each = listed-one_each w d a graded among; few = le_trans (listed-few w d a graded among) few }) (assignments w d) (all-members (assignments w d))

@@ -1,5 +1,5 @@
 -- The legs of the corners where no open edge has any.
-use Rattle.std.proofs.Common.{◌≡◌, ℕ, zero, suc, ◌+◌, ◌<◌, ◌≤◌, List, [], ◌∷◌, ◌++◌, map, length, take, get_or, refl, sym, ◌∙◌, ap}
+use Rattle.std.proofs.Common.{◌≡◌, ℕ, zero, suc, ◌+◌, ◌<◌, List, [], ◌∷◌, ◌++◌, map, length, take, get_or, refl, sym, ◌∙◌, ap}
 use Rattle.std.proofs.lemmas.List.{take_more, map-append}
 use Rattle.tv_spec_plane.specs.declared.records.OuterEdge.{OuterEdge}
 use Rattle.tv_spec_plane.specs.declared.records.EdgeRef.{EdgeRef}
@@ -7,7 +7,7 @@ use Rattle.tv_spec_plane.specs.declared.records.EdgeRef.TheVariants.{Compact, Ou
 use Rattle.tv_spec_plane.specs.declared.records.Corner.{Corner}
 use Rattle.tv_spec_plane.specs.Web.{Web, outer, corners}
 use Rattle.tv_cells.specs.declared.legs.Legs.{Legs}
-use Rattle.tv_spec_boxes.specs.Assignments.{Rows, Assignment, all_legs, legs_of, rows_at, no_legs}
+use Rattle.tv_spec_boxes.specs.Assignments.{Rows, Assignment, legs_of, rows_at, no_legs}
 
 empty : OuterEdge → Rows
 empty e = []

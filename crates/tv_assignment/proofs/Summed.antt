@@ -10,7 +10,7 @@ use Rattle.std.proofs.Math.Nat.{mul-le-mul_right}
 use Rattle.std.specs.Prelude.{ℤ, pos, ◌+ℤ◌, ◌*ℤ◌, unsigned_abs}
 use Rattle.std.proofs.lemmas.Int.{ints}
 use Rattle.tv_spec_plane.specs.declared.records.CompactEdge.{CompactEdge}
-use Rattle.tv_spec_plane.specs.Web.{Web, compact, normal_a, normal_b}
+use Rattle.tv_spec_plane.specs.Web.{Web, normal_a, normal_b}
 use Rattle.tv_partition.specs.Rows.{size}
 use Rattle.tv_cells.specs.Costs.{edge_cost}
 use Rattle.tv_degrees.specs.Edges.{no_edge}

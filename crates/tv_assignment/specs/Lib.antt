@@ -1,5 +1,6 @@
 pub mod Terms
 pub mod Listing
 pub mod Kept
+pub mod Asked
 pub use Rattle.tv_spec_boxes.specs.Assignments
 pub use Rattle.tv_gluing.specs.Ways

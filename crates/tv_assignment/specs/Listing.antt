@@ -1,8 +1,7 @@
 -- Lists of assignments as they are written, behind the diagrams that are chosen already.
 --
 -- behind front lists        == each of the lists behind front
--- sized front gs left g n   == the assignments behind front whose next diagram has n cells on an edge of degree g, with
---                              the others on edges of the degrees gs, of degree at most left in all
+-- sized front gs left g n   == those behind front of degree at most left, n cells on an edge of degree g first, then on edges of gs
 -- AreSizes sizes            == they are 0, 1, 2, .. in order
 -- degrees_of w              == the degrees of the compact edges, in their order
 use Rattle.std.specs.Prelude.{◌≡◌, ℕ, ◌-◌, ◌*◌, ◌<◌, List, [], ◌∷◌, ◌++◌, map, cond, length, nat_le, slice_index_or}

@@ -21,12 +21,14 @@ impl Model for Assignment {
 }
 
 impl Assignment {
+    /// The assignment with these diagrams on the edges, in order.
     pub fn new(diagrams: Vec<Diagram>) -> Assignment
         ensures { result ≡ diagrams.items }
     {
         Assignment { diagrams }
     }
 
+    /// The diagrams, in the order of edges.
     pub fn diagrams(&self) -> &[Diagram]
         ensures { result.now ≡ self.now }
     {

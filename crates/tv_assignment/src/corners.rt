@@ -1,30 +1,21 @@
-//! The series of corners, each computed once for its three legs and kept. Which corners a web has is not known here.
+//! The series of corners, kept by their three legs. One that is kept is computed anew only where more is asked for than it
+//! tells. Which corners a web has is not known here.
 
-ghost use Rattle.std.specs.Prelude.{◌≡◌, ◌<◌, ◌≤◌, ◌*◌, ◌^◌, ℕ, [], Some, length, slice_get, IfOk, IsErrOf};
+ghost use Rattle.std.specs.Prelude.{◌≡◌, ◌<◌, ◌≤◌, ◌*◌, ◌^◌, ℕ, [], Some, length, slice_get, IfOk, IsErrOf, OnErr};
 ghost use Rattle.tv_ring.specs.Operations.{limit};
 ghost use Rattle.tv_cells.specs.Extras.{count};
-ghost use Rattle.tv_assignment.specs.Terms.{IsCornerFrom};
-ghost use Rattle.tv_assignment.specs.Kept.{legs_by, IsPlaceOf};
+ghost use Rattle.tv_assignment.specs.Kept.{IsPlaceOf};
 
-use crate::assignment::copy_of;
+use crate::key::{Key, key_of};
 use indexmap::IndexMap;
-use std::alloc::{AllocError, Global};
+use std::alloc::Global;
 use std::marker::Model;
 use tv_cells::legs::Legs;
 use tv_laurent::Series;
-use tv_partition::diagram::Diagram;
 use tv_ring::{Ring, RingFault};
 use tv_vertex::corner_series;
 
-// Three legs, as they are looked up.
-#[derive(PartialEq, Eq, Hash, Drop)]
-struct Key {
-    along_x: Diagram,
-    along_y: Diagram,
-    along_z: Diagram,
-}
-
-/// The series that were asked for, each as far as it was asked for.
+/// The series that were asked for, each as far as it was asked for at most.
 #[derive(Drop)]
 pub struct Corners<C: Ring> {
     kept: IndexMap<Key, Series<C>>,
@@ -53,23 +44,20 @@ impl<C: Ring> Corners<C> {
         }
     }
 
-    /// The series of the corner with these legs, known through `k` at least.
-    pub fn series(&mut self, alloc: Global, legs: &Legs, k: u32) -> Result<&Series<C>, RingFault>
+    /// The place of the series of the corner with these legs, known through `k` at least. It is computed where it is not kept
+    /// or known less far. On an error what is kept stays as it was.
+    pub(crate) fn place_of(
+        &mut self,
+        alloc: Global,
+        legs: &Legs,
+        k: u32,
+    ) -> Result<usize, RingFault>
         requires { k < 2 ^ 29 }
-        ensures value { IfOk result (λ s. IsCornerFrom C.ring legs.now k s.now) }
+        ensures value { IfOk result (λ i. IsPlaceOf C.ring legs.now k self.new i) }
 
         // Wide only where one of the numbers through k, times the size of one, exceeds the limit.
         ensures wide { IsErrOf result RingFault.Wide → (i : ℕ) × (i ≤ k) × (limit < count legs.now i * C.ring.size C.ring.unit) }
-    {
-        let place = self.place_of(alloc, legs, k)?;
-        Ok(self.at(place))
-    }
-
-    // The place of that series, which is computed where it is not kept or known less far.
-    fn place_of(&mut self, alloc: Global, legs: &Legs, k: u32) -> Result<usize, RingFault>
-        requires { k < 2 ^ 29 }
-        ensures value { IfOk result (λ i. IsPlaceOf C.ring legs.now k self.new i) }
-        ensures wide { IsErrOf result RingFault.Wide → (i : ℕ) × (i ≤ k) × (limit < count legs.now i * C.ring.size C.ring.unit) }
+        ensures err { OnErr result (self.new ≡ self.old) }
     {
         let key = key_of(alloc, legs)?;
         if let Some(place) = self.kept.get_index_of(&key) {
@@ -82,20 +70,11 @@ impl<C: Ring> Corners<C> {
         Ok(place)
     }
 
-    fn at(&self, place: usize) -> &Series<C>
+    /// The series at that place.
+    pub(crate) fn at(&self, place: usize) -> &Series<C>
         requires { place < length self.now }
         ensures { slice_get self.now place ≡ Some result.now }
     {
         &self.kept[place]
     }
-}
-
-fn key_of(alloc: Global, legs: &Legs) -> Result<Key, AllocError>
-    ensures { IfOk result (λ key. legs_by key ≡ legs.now) }
-{
-    Ok(Key {
-        along_x: copy_of(alloc, &legs.along_x)?,
-        along_y: copy_of(alloc, &legs.along_y)?,
-        along_z: copy_of(alloc, &legs.along_z)?,
-    })
 }

@@ -2,11 +2,15 @@
 //! ring. They are not added up here.
 #![tactic(auto)]
 
+mod asked;
 mod assignment;
 mod corners;
 mod costs;
+mod fault;
+mod key;
 mod legs;
 mod listing;
+mod prepare;
 mod product;
 mod series;
 mod signs;
@@ -15,5 +19,6 @@ mod tests;
 
 pub use assignment::Assignment;
 pub use corners::Corners;
+pub use fault::PrepareFault;
 pub use listing::assignments_of;
 pub use series::assignment_series;

@@ -58,7 +58,8 @@ fn with_corner<C: Ring>(
     ensures value { IfOk result (λ s. s ≡ front_terms C.ring (take (t + 1) legs.now) k) }
     ensures wide { IsErrOf result RingFault.Wide → IsBeyond C.ring legs.now k }
 {
-    let corner = corners.series(alloc, &legs[t], k)?;
+    let place = corners.place_of(alloc, &legs[t], k)?;
+    let corner = corners.at(place);
     match product.mul(corner) {
         Ok(product) => Ok(product),
         Err(SeriesFault::Wide(_)) => Err(RingFault::Wide),

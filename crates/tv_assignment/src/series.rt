@@ -20,7 +20,8 @@ use tv_ring::{Ring, RingFault};
 /// The series of an assignment through the exponent `n`: the signed number of configurations with these diagrams on the
 /// compact edges and none on the open ones, by the Euler characteristic.
 ///
-/// It begins where there are no boxes, or knows nothing where that is beyond `n`.
+/// It begins where there are no boxes, or knows nothing where that is beyond `n`. What the corners keep stays kept, also on an
+/// error, and what was computed for this assignment is kept besides.
 pub fn assignment_series<C: Ring>(
     alloc: Global,
     web: &GradedWeb,
@@ -48,8 +49,8 @@ pub fn assignment_series<C: Ring>(
     Ok(Series::new(start, coefficients))
 }
 
-// How many boxes bring the start to n.
-fn boxes_left(start: i64, n: i64) -> u32
+/// How many boxes bring the start to `n`.
+pub(crate) fn boxes_left(start: i64, n: i64) -> u32
     requires start { unsigned_abs start ≤ 10000000 }
     requires exponent { unsigned_abs n ≤ 100000000 }
     requires within { start ≤ℤ n }

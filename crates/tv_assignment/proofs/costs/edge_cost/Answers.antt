@@ -1,4 +1,4 @@
-use Rattle.std.proofs.Common.{◌≡◌, ◌≤◌, ◌*◌, arith}
+use Rattle.std.proofs.Common.{◌≤◌, ◌*◌, arith}
 use Rattle.std.specs.Prelude.{unsigned_abs}
 use Rattle.tv_partition.specs.Rows.{size}
 use Rattle.tv_assignment.proofs.Bounded.{edge_cost-small, read_small, read_cells}

@@ -1,4 +1,4 @@
-use Rattle.std.proofs.Common.{◌≤◌, arith}
+use Rattle.std.proofs.Common.{arith}
 use Rattle.std.proofs.lemmas.Int.{ints}
 use Rattle.tv_assignment.proofs.Bounded.{overlap_cost-small, extent-small}
 use Rattle.tv_assignment.proofs.costs.overlap_cost.Goals as goal

@@ -2,7 +2,7 @@ use Rattle.std.proofs.Common.{◌≡◌, refl, sym, ◌∙◌, ap, arith, subst,
 use Rattle.std.specs.Prelude.{OnOk, slice_get, length}
 use Rattle.std.proofs.lemmas.Option.{slice_get_within, get_or_from_slice_get}
 use Rattle.tv_partition.specs.Rows.{diagrams}
-use Rattle.tv_spec_boxes.specs.Assignments.{choices, Assignment, Rows}
+use Rattle.tv_spec_boxes.specs.Assignments.{choices, Assignment}
 use Rattle.tv_assignment.specs.Listing.{behind, sized}
 use Rattle.tv_assignment.proofs.Written.{sizes-first, sizes-next, sizes-last, diagrams-first, diagrams-next, diagrams-last, sized-none, whole-front, size_read}
 use Rattle.tv_assignment.proofs.listing.+choosing.Goals as goal

@@ -1,4 +1,4 @@
-use Rattle.std.proofs.Common.{◌≡◌, [], ◌∙◌, length, sym, ap, arith, refl}
+use Rattle.std.proofs.Common.{◌≡◌, [], ◌∙◌, length, sym, ap, arith}
 use Rattle.std.proofs.lemmas.Int.{ints}
 use Rattle.tv_terms.proofs.Listed.{listed-none, listed_push, length-listed}
 use Rattle.tv_assignment.specs.Terms.{front_times}

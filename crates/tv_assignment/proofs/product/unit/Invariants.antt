@@ -1,4 +1,4 @@
-use Rattle.std.proofs.Common.{◌≡◌, ◌≤◌, ◌<◌, []}
+use Rattle.std.proofs.Common.{◌≡◌, ◌<◌, []}
 use Rattle.tv_terms.specs.Terms.{listed}
 use Rattle.tv_assignment.specs.Terms.{front_times}
 use Rattle.tv_assignment.proofs.product.unit.Given as goal

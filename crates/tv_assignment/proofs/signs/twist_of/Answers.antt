@@ -1,4 +1,4 @@
-use Rattle.std.proofs.Common.{◌≡◌, ◌+◌, ◌≤◌, ◌∙◌, ap, arith, length, get_or, w64, to_z}
+use Rattle.std.proofs.Common.{◌≡◌, ◌+◌, ◌∙◌, ap, arith, length, get_or, w64, to_z}
 use Rattle.tv_spec_plane.specs.Web.{compact}
 use Rattle.tv_assignment.proofs.Summed.{twist_by, twists-are, summed-next, summed-last, summed-bound, read_total}
 use Rattle.tv_assignment.proofs.signs.twist_of.Goals as goal

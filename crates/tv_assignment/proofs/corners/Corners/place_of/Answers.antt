@@ -1,6 +1,6 @@
 use Rattle.std.proofs.Common.{arith}
 use Rattle.std.proofs.lemmas.Int.{ints}
-use Rattle.tv_assignment.proofs.Keeping.{same, found-place, still-kept, put-place, read_back, read_far}
+use Rattle.tv_assignment.proofs.Keeping.{found-place, still-kept, put-place, read_back, read_far}
 use Rattle.tv_assignment.proofs.corners.Corners.place_of.Goals as goal
 
 pub returns-then-upto-from-clause-value : goal.returns-then-upto-from-clause-value

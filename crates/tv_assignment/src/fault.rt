@@ -1,0 +1,34 @@
+//! Why the series of corners could not be prepared. It names an assignment by its place in a list, and no class.
+
+use std::alloc::{AllocError, AllocFailed};
+
+/// A number on the way to an assignment's series is too wide, or want of memory.
+#[derive(Debug, Drop)]
+pub enum PrepareFault {
+    /// The number of an assignment for whose corners there are too many sets of boxes.
+    Wide(usize),
+    /// There is no memory left.
+    Memory,
+}
+
+impl<T: Drop> From<AllocFailed<T>> for PrepareFault {
+    ghost use Rattle.tv_assignment.specs.declared.fault.PrepareFault.TheVariants.{Memory};
+    ghost use Rattle.std.specs.Prelude.{◌≡◌};
+
+    ghost from_gives = { λ _ e. e ≡ Memory };
+
+    fn from(_e: AllocFailed<T>) -> PrepareFault {
+        PrepareFault::Memory
+    }
+}
+
+impl From<AllocError> for PrepareFault {
+    ghost use Rattle.tv_assignment.specs.declared.fault.PrepareFault.TheVariants.{Memory};
+    ghost use Rattle.std.specs.Prelude.{◌≡◌};
+
+    ghost from_gives = { λ _ e. e ≡ Memory };
+
+    fn from(_e: AllocError) -> PrepareFault {
+        PrepareFault::Memory
+    }
+}
