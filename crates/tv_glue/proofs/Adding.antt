@@ -2,7 +2,7 @@
 use Rattle.std.specs.Prelude.{◌≡◌, Contains, ℕ, ◌+◌, ◌<◌, ◌≤◌, ℤ, pos, ◌≤ℤ◌, List, [], ◌∷◌, ◌++◌, length, take}
 use Rattle.std.proofs.Common.{refl, sym, ap, subst, ◌∙◌, get_or, drop, take_all, arith, le_trans}
 use Rattle.std.proofs.lemmas.Int.{ints}
-use Rattle.std.proofs.lemmas.List.{take_more, take-append-drop}
+use Rattle.std.proofs.lemmas.List.{take_more, take-append-drop, get_or_read}
 use Rattle.tv_ring.specs.Operations.{Operations, RingLaws, SizeLaws}
 use Rattle.tv_terms.specs.Terms.{Terms, upto}
 use Rattle.tv_terms.specs.Series.{IsSeries}
@@ -32,7 +32,10 @@ pub record IsNext (w : Web) (d : ℕ) (all : List Assignment) (k : ℕ) (a : Ass
   pub place : k < length all
   pub read : a ≡ get_or all k a
 
-module _ (w : Web) (d : ℕ) (all : List Assignment) (k : ℕ) (a : Assignment) (next : IsNext w d all k a) where
+pub is_next : {w : Web} {d : ℕ} {all : List Assignment} {k : ℕ} {a : Assignment} → IsGraded w → IsHeighted w → all ≡ assignments w d → k < length all → a ≡ get_or all k a → IsNext w d all k a
+is_next graded heighted list place read = record { graded = graded; heighted = heighted; list = list; place = place; read = read }
+
+module _ {w : Web} {d : ℕ} {all : List Assignment} {k : ℕ} {a : Assignment} (next : IsNext w d all k a) where
   among : Contains (assignments w d) a
   among = let P : List Assignment → Type 0 = λ xs. Contains xs a in subst P next.list (k, next.place, sym next.read)
 
@@ -78,6 +81,11 @@ module _ (w : Web) (d : ℕ) (all : List Assignment) (k : ℕ) (a : Assignment) 
 
   pub next-too_many : {A : Type 0} (r : Operations A) (n : ℤ) (v : List ℤ) → v ≡ class_of w a → IsTooMany r w (no_legs w) n a → IsCrowded r w d n v
   next-too_many r n v same many = rw same (crowded-series w d n a next.graded among many)
+
+-- an assignment of the list that has too many
+pub named-crowded : {A : Type 0} (r : Operations A) (w : Web) (d : ℕ) (n : ℤ) (all : List Assignment) (k : ℕ) (a : Assignment) (v : List ℤ) → IsNext w d all k a → v ≡ class_of w a → IsTooMany r w (no_legs w) n (get_or all k []) → IsCrowded r w d n v
+named-crowded r w d n all k a v next same many =
+    next-too_many next r n v same (subst (IsTooMany r w (no_legs w) n) (sym (get_or_read all k a next.place next.read [])) many)
 
 -- none of them, and all
 pub first-glued : {A : Type 0} (r : Operations A) (w : Web) (d : ℕ) (n : ℤ) (all : List Assignment) (f : Family A) → f ≡ without_rows w.heights (pos d) n → IsGlued r w (no_legs w) d n (take 0 all) f

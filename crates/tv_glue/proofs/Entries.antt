@@ -5,7 +5,7 @@ use Rattle.std.proofs.Common.{refl, sym, ap, subst, ◌∙◌, get_or, arith, w6
 use mir.Val.{to_z, of_z}
 use Rattle.std.proofs.Math.Nat.{mul-le-mul_left}
 use Rattle.std.proofs.lemmas.Int.{ints, unsigned_abs-mul, to_z-of_z}
-use Rattle.std.proofs.lemmas.List.{length-map, take_more}
+use Rattle.std.proofs.lemmas.List.{length-map, take_more, drop_all}
 use Rattle.tv_spec_plane.specs.declared.records.CompactEdge.{CompactEdge}
 use Rattle.tv_spec_plane.specs.Web.{Web, compact, class_entry, edge_class}
 use Rattle.tv_partition.specs.Rows.{size}
@@ -21,12 +21,6 @@ use Rattle.tv_degrees.proofs.Bounds.{class_entries-small}
 use Rattle.tv_assignment.specs.Terms.{cells_of}
 
 -- ---- sums of vectors, entry by entry
-
-drop-all : {A : Type 0} (xs : List A) (k : ℕ) → length xs ≤ k → drop k xs ≡ []
-drop-all [] zero h = refl
-drop-all [] (suc k) h = refl
-drop-all (x ∷ xs) zero h = absurd (omega arith)
-drop-all (x ∷ xs) (suc k) h = drop-all xs k (omega arith)
 
 at-zeros : (n k : ℕ) → get_or (zeros n) k (pos 0) ≡ pos 0
 at-zeros zero k = refl
@@ -114,7 +108,7 @@ added-next w a k e rows total x h i read is few before =
 
 pub added-last : (w : Web) (a : Assignment) (k e : ℕ) (total : ℤ) → length (compact w) ≤ e → IsAddedUp w a k e total → total ≡ get_or (class_of w a) k (pos 0)
 added-last w a k e total h before =
-    let none : drop e (compact w) ≡ [] = drop-all (compact w) e h in
+    let none : drop e (compact w) ≡ [] = drop_all e (compact w) h in
     let sum = rw none at before.sum in
     let rest = at-zeros (length w.points) k in
     omega (arith, ints)

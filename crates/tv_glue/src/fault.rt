@@ -7,9 +7,10 @@ use tv_lattice::class::Class;
 /// The configurations of a class are too many, or want of memory.
 #[derive(Debug, Drop, Error)]
 pub enum GlueFault {
-    /// The class whose coefficient, or a number on the way to it, is too wide.
+    /// A class that has more configurations, with at most max(0, n - 2 L) boxes, than 2^127 - 1 (`crowd`).
     #[error("a coefficient, or a number on the way to it, is too wide")]
     Wide(Class),
+    /// There is no memory left.
     #[error("out of memory")]
     Memory,
 }

@@ -1,4 +1,4 @@
-//! The full family: each assignment's series is added into its class. It keeps no assignment.
+//! The full family: each assignment's series is added into its class. It counts no box itself.
 
 ghost use Rattle.std.specs.Prelude.{◌≡◌, ◌≤◌, ◌<◌, ◌+◌, pos, unsigned_abs, length, take, IfOk, IfErr, OnOk};
 ghost use Rattle.tv_spec_boxes.specs.Assignments.{assignments, no_legs};
@@ -10,14 +10,15 @@ ghost use Rattle.tv_glue.specs.Faults.{OnWide, IsCrowded};
 use crate::class::class_of;
 use crate::fault::GlueFault;
 use std::alloc::{AllocError, Global};
-use tv_assignment::{Assignment, Corners, assignment_series, assignments_of};
+use tv_assignment::{Assignment, Corners, PrepareFault, assignment_series, assignments_of};
 use tv_degrees::grade::GradedWeb;
 use tv_graded::Graded;
 use tv_laurent::SeriesFault;
 use tv_ring::{Ring, RingFault};
 
-/// The series of every class of degree at most `d` through the exponent `n`: the signed numbers of configurations, with
-/// no diagram on the open edges.
+/// The series of every class that some assignment of degree at most `d` has, through the exponent `n`: the signed numbers of
+/// configurations, with no diagram on the open edges (Maulik, Nekrasov, Okounkov and Pandharipande: the partition function of
+/// box configurations).
 pub fn full<C: Ring>(alloc: Global, web: &GradedWeb, d: u32, n: i64) -> Result<Graded<C>, GlueFault>
     requires degree { d ≤ 24 }
     requires order { unsigned_abs n ≤ 100000000 }
@@ -28,13 +29,35 @@ pub fn full<C: Ring>(alloc: Global, web: &GradedWeb, d: u32, n: i64) -> Result<G
 {
     web.known();
     let all = assignments_of(alloc, web, d)?;
-    let mut corners = Corners::new(alloc);
+    let mut corners = prepared(alloc, web, &all, d, n)?;
     let mut family = without_classes(alloc, web, d, n)?;
     for k in 0..all.len() {
         add(alloc, web, &all, k, d, n, &mut corners, &mut family)?;
     }
     family.known();
     Ok(family)
+}
+
+// The corners of all assignments, each computed as far as one of them asks for it.
+fn prepared<C: Ring>(
+    alloc: Global,
+    web: &GradedWeb,
+    all: &[Assignment],
+    d: u32,
+    n: i64,
+) -> Result<Corners<C>, GlueFault>
+    requires degree { d ≤ 24 }
+    requires order { unsigned_abs n ≤ 100000000 }
+    requires listed { all.now ≡ assignments web.now d }
+    ensures wide { IfErr result (λ e. OnWide e (IsCrowded C.ring web.now d n)) }
+{
+    web.known();
+    let mut corners = Corners::new(alloc);
+    match corners.prepare(alloc, web, all, n) {
+        Ok(()) => Ok(corners),
+        Err(PrepareFault::Wide(k)) => Err(GlueFault::Wide(class_of(alloc, web, &all[k])?)),
+        Err(PrepareFault::Memory) => Err(GlueFault::Memory),
+    }
 }
 
 // The family of the web that has no class yet.

@@ -2,15 +2,14 @@
 --
 -- split c f n i       == the ways with i of n boxes at the first corner: c i there, f (n - i) at the others
 -- spread c f n        == the convolution of c and f at n, a sum over the n + 1 numbers of boxes at the first corner
--- ways cs n           == the convolution of the counts cs at n: in how many ways n boxes are split over corners with
---                        these counts
+-- ways cs n           == the convolution of the counts cs at n: the ways to split n boxes over corners with these counts
 -- corner_ways legs n  == the same of the counts of these corners
 -- ways_at legs z      == the same at a whole number; 0 below 0
 -- start_of w fixed a  == the Euler characteristic of the assignment without boxes, the least that it has
 -- assignment_sign w a n == (-1)^(n + s), with s the sum of the normal degree at a times the size
 -- assignment_coefficient w fixed a n == that sign times the number of ways that the boxes left are split
--- IsListed w d a      == a has a diagram for each compact edge, each of at most d cells, and a class with an entry for
---                        each point and a degree from 0 to d
+-- IsAtMost d rows     == the rows are a diagram of at most d cells
+-- IsListed w d a      == a has one such for each compact edge, and a class of an entry for each point and a degree up to d
 use Rattle.std.specs.Prelude.{◌≡◌, ℕ, suc, ◌-◌, ◌*◌, ◌≤◌, ℤ, pos, negsuc, ◌+ℤ◌, ◌-ℤ◌, ◌*ℤ◌, ◌≤ℤ◌, List, [], ◌∷◌, map, length, cond, nat_eq}
 use Rattle.std.specs.List.{AllByRecursion}
 use Rattle.tv_ring.specs.Sums.{total_below}
@@ -47,7 +46,6 @@ assignment_sign w a n = sign (n +ℤ edge_twist w a)
 unfoldable pub assignment_coefficient : Web → List Rows → Assignment → ℤ → ℤ
 assignment_coefficient w fixed a n = assignment_sign w a n *ℤ pos (ways_at (all_legs w a fixed) (boxes_left w fixed a n))
 
--- a diagram of at most d cells
 abbrev pub IsAtMost : ℕ → Rows → Type 0
 IsAtMost d rows = IsDiagram rows × (size rows ≤ d)
 

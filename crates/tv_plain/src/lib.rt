@@ -1,5 +1,5 @@
-//! The plain count of extras: it lists the cells of a cube, chooses among them and tests each choice. It is the meaning
-//! of the count and takes time that grows fast with the order; the count by slices is quicker.
+//! The plain count of extras: it lists the cells of a cube, chooses among them and tests each choice, in a time that grows
+//! fast with their number. It adds no counts of several corners together.
 #![tactic(auto)]
 
 pub mod fault;

@@ -47,7 +47,7 @@ pub fn extras_count(alloc: Global, legs: &Legs, number: u32) -> Result<u128, Cou
     }
 }
 
-/// How many sets of `left` of the cells are extras with the chosen cells. It decides the cells one by one.
+/// How many sets of `left` of the cells are extras with the chosen cells, times one. It decides the cells one by one.
 #[cycle(counting)]
 fn times_rest<C: Ring>(
     alloc: Global,
@@ -77,7 +77,7 @@ fn times_rest<C: Ring>(
     Ok(total)
 }
 
-/// How many sets of `left` of the cells are extras with the chosen cells and the cell.
+/// How many sets of `left` of the cells are extras with the chosen cells and the cell, times one.
 #[cycle(counting)]
 fn times_taking<C: Ring>(
     alloc: Global,

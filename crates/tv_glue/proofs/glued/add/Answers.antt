@@ -1,48 +1,48 @@
 use Rattle.std.proofs.Common.{Err, ap, w64}
 use Rattle.std.proofs.lemmas.Int.{to_z-of_z}
-use Rattle.tv_glue.proofs.Adding.{next-one_each, next-few, next-place, next-upto, next-glued, next-crowded, next-too_many}
+use Rattle.tv_glue.proofs.Adding.{is_next, next-one_each, next-few, next-place, next-upto, next-glued, next-crowded, next-too_many}
 use Rattle.tv_glue.proofs.glued.add.Goals as goal
 
 pub class_of-requires-clause-one_each : goal.class_of-requires-clause-one_each
 class_of-requires-clause-one_each g c =
-    next-one_each c.args.web.now c.args.d c.args.all.now c.args.k c.index-all-k.result (record { graded = c.known.ensures.graded; heighted = c.known.ensures.heighted; list = c.requires.listed; place = c.requires.place; read = c.index-all-k.is })
+    next-one_each (is_next c.known.ensures.graded c.known.ensures.heighted c.requires.listed c.requires.place c.index-all-k.is)
 
 pub class_of-requires-clause-few : goal.class_of-requires-clause-few
 class_of-requires-clause-few g c =
-    next-few c.args.web.now c.args.d c.args.all.now c.args.k c.index-all-k.result (record { graded = c.known.ensures.graded; heighted = c.known.ensures.heighted; list = c.requires.listed; place = c.requires.place; read = c.index-all-k.is }) c.requires.degree
+    next-few (is_next c.known.ensures.graded c.known.ensures.heighted c.requires.listed c.requires.place c.index-all-k.is) c.requires.degree
 
 pub assignment_series-requires-clause-one_each : goal.assignment_series-requires-clause-one_each
 assignment_series-requires-clause-one_each g c =
-    next-one_each c.args.web.now c.args.d c.args.all.now c.args.k c.index-all-k.result (record { graded = c.known.ensures.graded; heighted = c.known.ensures.heighted; list = c.requires.listed; place = c.requires.place; read = c.index-all-k.is })
+    next-one_each (is_next c.known.ensures.graded c.known.ensures.heighted c.requires.listed c.requires.place c.index-all-k.is)
 
 pub assignment_series-requires-clause-few : goal.assignment_series-requires-clause-few
 assignment_series-requires-clause-few g c =
-    next-few c.args.web.now c.args.d c.args.all.now c.args.k c.index-all-k.result (record { graded = c.known.ensures.graded; heighted = c.known.ensures.heighted; list = c.requires.listed; place = c.requires.place; read = c.index-all-k.is }) c.requires.degree
+    next-few (is_next c.known.ensures.graded c.known.ensures.heighted c.requires.listed c.requires.place c.index-all-k.is) c.requires.degree
 
 pub returns-in-Err-Wide-clause-wide : goal.returns-in-Err-Wide-clause-wide
 returns-in-Err-Wide-clause-wide g c =
-    next-too_many c.args.web.now c.args.d c.args.all.now c.args.k c.index-all-k.result (record { graded = c.known.ensures.graded; heighted = c.known.ensures.heighted; list = c.requires.listed; place = c.requires.place; read = c.index-all-k.is }) g.C.Ring.ring c.args.n c.in_ok-class.class c.in_ok-class.ensures (rw (to_z-of_z w64 c.args.n c.ranges.n) at (c.in-Err-Wide.ensures.wide (ap Err c.in-Err-Wide.field-0-is)))
+    next-too_many (is_next c.known.ensures.graded c.known.ensures.heighted c.requires.listed c.requires.place c.index-all-k.is) g.C.Ring.ring c.args.n c.in_ok-class.class c.in_ok-class.ensures (rw (to_z-of_z w64 c.args.n c.ranges.n) at (c.in-Err-Wide.ensures.wide (ap Err c.in-Err-Wide.field-0-is)))
 
 pub add_into-requires-clause-place : goal.add_into-requires-clause-place
 add_into-requires-clause-place g c =
-    next-place c.args.web.now c.args.d c.args.all.now c.args.k c.index-all-k.result (record { graded = c.known.ensures.graded; heighted = c.known.ensures.heighted; list = c.requires.listed; place = c.requires.place; read = c.index-all-k.is }) g.C.Ring.ring c.args.n c.in-Ok.series (rw (to_z-of_z w64 c.args.n c.ranges.n) at c.in-Ok.ensures.value) c.args.family.now c.in_ok-class.class c.in_ok-class.ensures c.requires.glued
+    next-place (is_next c.known.ensures.graded c.known.ensures.heighted c.requires.listed c.requires.place c.index-all-k.is) g.C.Ring.ring c.args.n c.in-Ok.series (rw (to_z-of_z w64 c.args.n c.ranges.n) at c.in-Ok.ensures.value) c.args.family.now c.in_ok-class.class c.in_ok-class.ensures c.requires.glued
 
 pub add_into-requires-clause-known : goal.add_into-requires-clause-known
 add_into-requires-clause-known g c =
-    next-upto c.args.web.now c.args.d c.args.all.now c.args.k c.index-all-k.result (record { graded = c.known.ensures.graded; heighted = c.known.ensures.heighted; list = c.requires.listed; place = c.requires.place; read = c.index-all-k.is }) g.C.Ring.ring c.args.n c.in-Ok.series (rw (to_z-of_z w64 c.args.n c.ranges.n) at c.in-Ok.ensures.value) c.args.family.now c.requires.glued
+    next-upto (is_next c.known.ensures.graded c.known.ensures.heighted c.requires.listed c.requires.place c.index-all-k.is) g.C.Ring.ring c.args.n c.in-Ok.series (rw (to_z-of_z w64 c.args.n c.ranges.n) at c.in-Ok.ensures.value) c.args.family.now c.requires.glued
 
 pub class_of-requires-in-Err-Wide-add_into-clause-one_each : goal.class_of-requires-in-Err-Wide-add_into-clause-one_each
 class_of-requires-in-Err-Wide-add_into-clause-one_each g c =
-    next-one_each c.args.web.now c.args.d c.args.all.now c.args.k c.index-all-k.result (record { graded = c.known.ensures.graded; heighted = c.known.ensures.heighted; list = c.requires.listed; place = c.requires.place; read = c.index-all-k.is })
+    next-one_each (is_next c.known.ensures.graded c.known.ensures.heighted c.requires.listed c.requires.place c.index-all-k.is)
 
 pub class_of-requires-in-Err-Wide-add_into-clause-few : goal.class_of-requires-in-Err-Wide-add_into-clause-few
 class_of-requires-in-Err-Wide-add_into-clause-few g c =
-    next-few c.args.web.now c.args.d c.args.all.now c.args.k c.index-all-k.result (record { graded = c.known.ensures.graded; heighted = c.known.ensures.heighted; list = c.requires.listed; place = c.requires.place; read = c.index-all-k.is }) c.requires.degree
+    next-few (is_next c.known.ensures.graded c.known.ensures.heighted c.requires.listed c.requires.place c.index-all-k.is) c.requires.degree
 
 pub returns-in-Ok-add_into-clause-glued : goal.returns-in-Ok-add_into-clause-glued
 returns-in-Ok-add_into-clause-glued g c =
-    next-glued c.args.web.now c.args.d c.args.all.now c.args.k c.index-all-k.result (record { graded = c.known.ensures.graded; heighted = c.known.ensures.heighted; list = c.requires.listed; place = c.requires.place; read = c.index-all-k.is }) g.C.Ring.ring c.args.n c.in-Ok.series (rw (to_z-of_z w64 c.args.n c.ranges.n) at c.in-Ok.ensures.value) g.met.C.Ring.laws c.args.family.now c.add_into.new.self c.in_ok-class.class c.in_ok-class.ensures c.known-2.ensures.family c.known-3.ensures.value c.requires.glued c.in-Ok-add_into.ensures.ok
+    next-glued (is_next c.known.ensures.graded c.known.ensures.heighted c.requires.listed c.requires.place c.index-all-k.is) g.C.Ring.ring c.args.n c.in-Ok.series (rw (to_z-of_z w64 c.args.n c.ranges.n) at c.in-Ok.ensures.value) g.met.C.Ring.laws c.args.family.now c.add_into.new.self c.in_ok-class.class c.in_ok-class.ensures c.known-2.ensures.family c.known-3.ensures.value c.requires.glued c.in-Ok-add_into.ensures.ok
 
 pub returns-in_ok-class_of-in-Err-Wide-add_into-clause-wide : goal.returns-in_ok-class_of-in-Err-Wide-add_into-clause-wide
 returns-in_ok-class_of-in-Err-Wide-add_into-clause-wide g c =
-    next-crowded c.args.web.now c.args.d c.args.all.now c.args.k c.index-all-k.result (record { graded = c.known.ensures.graded; heighted = c.known.ensures.heighted; list = c.requires.listed; place = c.requires.place; read = c.index-all-k.is }) g.C.Ring.ring c.args.n c.in-Ok.series (rw (to_z-of_z w64 c.args.n c.ranges.n) at c.in-Ok.ensures.value) g.met.C.Ring.laws g.met.C.Ring.sizes c.args.family.now c.in_ok-class.class c.in_ok-class_of-in-Err-Wide-add_into.field-0 _ c.in_ok-class.ensures c.in_ok-class_of-in-Err-Wide-add_into.ensures c.requires.glued (rw c.in-Err-Wide-add_into.field-0-is at c.in-Err-Wide-add_into.ensures.wide)
+    next-crowded (is_next c.known.ensures.graded c.known.ensures.heighted c.requires.listed c.requires.place c.index-all-k.is) g.C.Ring.ring c.args.n c.in-Ok.series (rw (to_z-of_z w64 c.args.n c.ranges.n) at c.in-Ok.ensures.value) g.met.C.Ring.laws g.met.C.Ring.sizes c.args.family.now c.in_ok-class.class c.in_ok-class_of-in-Err-Wide-add_into.field-0 _ c.in_ok-class.ensures c.in_ok-class_of-in-Err-Wide-add_into.ensures c.requires.glued (rw c.in-Err-Wide-add_into.field-0-is at c.in-Err-Wide-add_into.ensures.wide)
