@@ -1,9 +1,10 @@
 -- The line of a refusal.
 --
+-- file_line ws    == `refused file` and the words that follow
 -- excess_line e   == the line of a count or a number over its limit
 -- fault_line f    == the line of a file that is refused
 -- crowd_line v    == the line of a class with too many configurations
--- spread_line n v == the line of a reduced coefficient at n of a class that would be too wide
+-- spread_line n v == the line of a class v and an exponent n at which the sizes that meet in its division are too large
 -- wide_line w     == the line of a number that would be too wide
 -- refusal_line r  == the line of a refusal
 use Rattle.std.specs.Prelude.{ℤ, pos, List, [], ◌∷◌, map, codes}
@@ -17,7 +18,6 @@ use Rattle.tv_text.specs.declared.refusal.WideNumber.TheVariants.{Crowd, Spread}
 use Rattle.tv_text.specs.declared.refusal.Refusal.{Refusal}
 use Rattle.tv_text.specs.declared.refusal.Refusal.TheVariants.{Words as AtWord, File, Wide}
 
--- `refused file` and the words that follow
 abbrev pub file_line : Words → Words
 file_line ws = codes "refused" ∷ codes "file" ∷ ws
 
@@ -49,8 +49,8 @@ abbrev pub spread_line : ℤ → List ℤ → Words
 spread_line n v = codes "refused" ∷ codes "wide" ∷ codes "spread" ∷ spelled n ∷ codes "class" ∷ map spelled v
 
 abbrev pub wide_line : WideNumber → Words
-wide_line (Crowd entries) = crowd_line entries.items
-wide_line (Spread exponent entries) = spread_line exponent entries.items
+wide_line (Crowd v) = crowd_line v
+wide_line (Spread v n) = spread_line n v
 
 abbrev pub refusal_line : Refusal → Words
 refusal_line (AtWord k) = codes "refused" ∷ codes "words" ∷ spelled (pos k) ∷ []

@@ -15,7 +15,7 @@ use tv_lattice::file::{FileData, RawFile};
 
 /// The file that the bytes spell, whatever their first byte is. They are refused where they are more than 65,536,
 /// else at the first line with which no file goes on (after the last line, where they end too early), else by the
-/// first limit that the file passes.
+/// first limit that the file passes. Want of memory may come at any time after the bytes are counted.
 pub fn read_file(alloc: Global, bytes: &[u8]) -> Result<FileData, InputError>
     ensures { MatchResult result (IsText bytes.now) (IsTextFault bytes.now) }
 {

@@ -4,7 +4,7 @@ ghost use Rattle.std.specs.Prelude.{◌≡◌, ◌≢◌, ◌≤◌, ◌<◌, �
 ghost use Rattle.std.specs.Str.Parse.{AllDigits, digits_value};
 ghost use Rattle.tv_spec_text.specs.Lines.{IsCount, IsNumber, spelled};
 
-/// The count that the word spells; None where it spells none.
+/// The count, of at most nine digits, that the word spells; None where it spells none.
 pub fn count(word: &[u8]) -> Option<u32>
     ensures { MatchOption result ((n : ℕ) → IsCount n → word.now ≢ spelled (pos n)) (λ n. IsCount n × (word.now ≡ spelled (pos n))) }
 {
@@ -20,7 +20,8 @@ pub fn count(word: &[u8]) -> Option<u32>
     digits(word)
 }
 
-/// The number that the word spells, with a minus in front where it is below 0; None where it spells none.
+/// The number, of at most nine digits, that the word spells, with a minus in front where it is below 0; None where it
+/// spells none.
 pub fn number(word: &[u8]) -> Option<i64>
     ensures { MatchOption result ((z : ℤ) → IsNumber z → word.now ≢ spelled z) (λ z. IsNumber z × (word.now ≡ spelled z)) }
 {

@@ -6,26 +6,32 @@ ghost use Rattle.tv_text.specs.Refusals.{crowd_line, excess_line, fault_line, sp
 
 use crate::numbers::end_with_numbers;
 use std::alloc::{AllocError, Global};
+use tv_lattice::class::Class;
 use tv_lattice::fault::{Excess, FileFault};
 
-/// A number that would be wider than 127 bits, by the class at which it is.
+/// A number beyond 2^127 - 1, by the class at which it is. The series is asked for in degrees through D, with exponents
+/// through N; L is the least of 0 and of the exponents at which the assignments of diagrams of degree at most D start.
 #[derive(Debug, Drop)]
 pub enum WideNumber {
-    /// The number of configurations of the class.
-    Crowd { entries: Vec<i64> },
-    /// The sum of the sizes that make the reduced coefficient of the class at the exponent.
-    Spread { exponent: i64, entries: Vec<i64> },
+    /// A class that has more than 2^127 - 1 configurations with at most max(0, N - 2 L) boxes.
+    Crowd(Class),
+    /// A class and an exponent at which the sizes that meet in the division of its series add up to more.
+    Spread { class: Class, exponent: i64 },
 }
 
-/// Why nothing is answered: the words of the command from the given place on, the file, or a number too wide.
+/// Why nothing is answered.
 #[derive(Debug, Drop)]
 pub enum Refusal {
+    /// The place, counted from 0, of the first word with which no command goes on; the number of words where they end too
+    /// early.
     Words(u64),
+    /// The first check that the file fails.
     File(FileFault),
+    /// The number of the web that would be too wide.
     Wide(WideNumber),
 }
 
-/// The refusal's one line.
+/// The refusal's one line, with its line feed. It errs only for want of memory.
 pub fn print_refusal(alloc: Global, refusal: &Refusal) -> Result<Vec<u8>, AllocError>
     ensures { IfOk result (λ v. v.items ≡ line_text (refusal_line refusal.now)) }
 {
@@ -82,8 +88,8 @@ fn put_wide(text: &mut String, wide: &WideNumber) -> Result<(), AllocError>
     ensures { OnOk result (string_bytes text.new ≡ string_bytes text.old ++ line_text (wide_line wide.now)) }
 {
     match wide {
-        WideNumber::Crowd { entries } => put_crowd(text, entries),
-        WideNumber::Spread { exponent, entries } => put_spread(text, *exponent, entries),
+        WideNumber::Crowd(class) => put_crowd(text, class.entries()),
+        WideNumber::Spread { class, exponent } => put_spread(text, *exponent, class.entries()),
     }
 }
 
@@ -146,16 +152,16 @@ mod tests {
         }
         let words = print_refusal(rt.alloc(), &Refusal::Words(3))?;
         assert_eq!(rt; words.as_slice(), b"refused words 3\n".as_slice());
-        let entries = Vec::from_slice(rt.alloc(), [-2, 2, 0].as_slice())?;
-        let wide = print_refusal(rt.alloc(), &Refusal::Wide(WideNumber::Crowd { entries }))?;
+        let class = Class::new(Vec::from_slice(rt.alloc(), [-2, 2, 0].as_slice())?);
+        let wide = print_refusal(rt.alloc(), &Refusal::Wide(WideNumber::Crowd(class)))?;
         assert_eq!(rt;
             wide.as_slice(),
             b"refused wide crowd class -2 2 0\n".as_slice()
         );
-        let entries = Vec::from_slice(rt.alloc(), [-2, 2, 0].as_slice())?;
+        let class = Class::new(Vec::from_slice(rt.alloc(), [-2, 2, 0].as_slice())?);
         let spread = WideNumber::Spread {
+            class,
             exponent: -7,
-            entries,
         };
         let wide = print_refusal(rt.alloc(), &Refusal::Wide(spread))?;
         assert_eq!(rt;

@@ -4,7 +4,8 @@ ghost use Rattle.std.specs.Prelude.{◌≡◌, ◌++◌, ◌∷◌, IfOk, OnOk, 
 ghost use Rattle.std.specs.List.{flat_map};
 ghost use Rattle.tv_spec_text.specs.Lines.{line_text, spelled};
 ghost use Rattle.tv_spec_text.specs.Reports.{term_line, class_line, section_lines, series_text};
-ghost use Rattle.tv_text.specs.Sections.{kind_word, head_lines, title_line, heights_line, degree_line, upto_line, end_line};
+ghost use Rattle.tv_spec_text.specs.Files.{heights_line, end_line};
+ghost use Rattle.tv_text.specs.Sections.{kind_word, head_lines, kind_line, degree_line, upto_line};
 
 use crate::numbers::end_with_numbers;
 use std::alloc::{AllocError, Global};
@@ -33,7 +34,9 @@ impl Kind {
 /// An exponent and its coefficient.
 #[derive(Clone, Copy, Debug)]
 pub struct Term {
+    /// The Euler characteristic.
     pub exponent: i64,
+    /// The coefficient at it.
     pub coefficient: i128,
 }
 
@@ -50,8 +53,11 @@ impl Model for Term {
 /// A class by its degree and its entries, and the terms of its series in the order in which they are printed.
 #[derive(Debug, Drop)]
 pub struct Section {
+    /// The degree of the class.
     pub degree: i64,
+    /// Its entries, in the order of the points.
     pub entries: Vec<i64>,
+    /// The terms of its series.
     pub terms: Vec<Term>,
 }
 
@@ -64,7 +70,7 @@ impl Model for Section {
 }
 
 /// The report of the series of the given kind: the heights, the degree and the exponent through which it goes, and
-/// the sections in their order.
+/// the sections in their order. It errs only for want of memory.
 pub fn print_sections(
     alloc: Global,
     kind: Kind,
@@ -99,7 +105,7 @@ fn put_head(
 
 #[tactic(auto, unfolding(tv_spec_text::specs::Lines::line_text))]
 fn put_title(text: &mut String, kind: Kind) -> Result<(), AllocError>
-    ensures { OnOk result (string_bytes text.new ≡ string_bytes text.old ++ line_text (title_line (kind_word kind))) }
+    ensures { OnOk result (string_bytes text.new ≡ string_bytes text.old ++ line_text (kind_line (kind_word kind))) }
 {
     let title = kind.word();
     writeln!(text, "report series {title}")?;

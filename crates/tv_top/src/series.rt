@@ -46,7 +46,7 @@ fn full_answer(alloc: Global, web: &GradedWeb, degree: u32, upto: i64) -> Result
     web.known();
     match full::<Whole>(alloc, web, degree, upto) {
         Ok(series) => print(alloc, Kind::Full, &series),
-        Err(GlueFault::Wide(class)) => too_crowded(alloc, &class),
+        Err(GlueFault::Wide(class)) => too_crowded(alloc, class),
         Err(GlueFault::Memory) => Err(Failure::Memory),
     }
 }
@@ -59,8 +59,8 @@ fn reduced_answer(alloc: Global, web: &GradedWeb, degree: u32, upto: i64) -> Res
     web.known();
     match reduced::<Whole>(alloc, web, degree, upto) {
         Ok(series) => print(alloc, Kind::Reduced, &series),
-        Err(ReducedFault::Crowd(class)) => too_crowded(alloc, &class),
-        Err(ReducedFault::Spread { class, exponent }) => spread_out(alloc, &class, exponent),
+        Err(ReducedFault::Crowd(class)) => too_crowded(alloc, class),
+        Err(ReducedFault::Spread { class, exponent }) => spread_out(alloc, class, exponent),
         Err(ReducedFault::Memory) => Err(Failure::Memory),
     }
 }
@@ -78,28 +78,22 @@ fn print(alloc: Global, kind: Kind, series: &Graded<Whole>) -> Result<Answer, Fa
     }
 }
 
-fn too_crowded(alloc: Global, class: &Class) -> Result<Answer, Failure>
-    ensures { Says result Status.Wide (crowd_line class.now) }
+fn too_crowded(alloc: Global, class: Class) -> Result<Answer, Failure>
+    ensures { Says result Status.Wide (crowd_line class) }
 {
-    match class.entries().to_vec(alloc) {
-        Ok(entries) => refuse(
-            alloc,
-            Status::Wide,
-            &Refusal::Wide(WideNumber::Crowd { entries }),
-        ),
-        Err(_) => Err(Failure::Memory),
-    }
+    refuse(
+        alloc,
+        Status::Wide,
+        &Refusal::Wide(WideNumber::Crowd(class)),
+    )
 }
 
-fn spread_out(alloc: Global, class: &Class, exponent: i64) -> Result<Answer, Failure>
-    ensures { Says result Status.Wide (spread_line exponent class.now) }
+fn spread_out(alloc: Global, class: Class, exponent: i64) -> Result<Answer, Failure>
+    ensures { Says result Status.Wide (spread_line exponent class) }
 {
-    match class.entries().to_vec(alloc) {
-        Ok(entries) => refuse(
-            alloc,
-            Status::Wide,
-            &Refusal::Wide(WideNumber::Spread { exponent, entries }),
-        ),
-        Err(_) => Err(Failure::Memory),
-    }
+    refuse(
+        alloc,
+        Status::Wide,
+        &Refusal::Wide(WideNumber::Spread { class, exponent }),
+    )
 }

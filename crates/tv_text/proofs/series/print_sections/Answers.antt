@@ -4,7 +4,8 @@ use Rattle.std.specs.Prelude.{string_bytes}
 use Rattle.std.specs.List.{flat_map}
 use Rattle.tv_spec_text.specs.Lines.{line_text}
 use Rattle.tv_spec_text.specs.Reports.{section_lines}
-use Rattle.tv_text.specs.Sections.{kind_word, head_lines, end_line}
+use Rattle.tv_spec_text.specs.Files.{end_line}
+use Rattle.tv_text.specs.Sections.{kind_word, head_lines}
 use Rattle.tv_text.proofs.Printing.{flat_map-parts}
 use Rattle.tv_text.proofs.series.print_sections.Goals as goal
 
