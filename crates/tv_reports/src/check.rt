@@ -12,6 +12,7 @@ use tv_degrees::grade::GradedWeb;
 use tv_spec_plane::records::{CompactEdge, OuterEdge};
 
 /// The counts of points, triangles and edges, the compact edges with their normal degrees and degrees, and the open edges.
+/// It errs only for want of memory.
 pub fn print_check(alloc: Global, web: &GradedWeb) -> Result<Vec<u8>, AllocError>
     ensures { IfOk result (λ v. v.items ≡ check_text web.now) }
 {

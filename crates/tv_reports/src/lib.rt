@@ -1,5 +1,5 @@
-//! The reports of results, as they are printed. What reads files and refuses them stands apart, so that it is not proved
-//! again with each report; what is reported is found out elsewhere.
+//! The reports of results as texts: what a web or a family of series has, in the lines of its report. What is reported is
+//! found out elsewhere, and so is which report is asked for.
 #![tactic(auto)]
 
 pub mod check;

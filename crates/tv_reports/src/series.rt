@@ -16,7 +16,8 @@ use tv_laurent::{Coefficient, Series};
 use tv_ring::Whole;
 use tv_text::series::{Kind, Section, Term, print_sections};
 
-/// The heights, degree and last exponent of the family, and a section for each class in their order.
+/// The heights, degree and last exponent of the family, and a section for each class in their order. It errs only for want
+/// of memory.
 pub fn print_series(
     alloc: Global,
     kind: Kind,

@@ -9,11 +9,12 @@ use Rattle.tv_spec_boxes.specs.Assignments.{no_legs}
 use Rattle.tv_spec_boxes.specs.Classes.{AreClasses}
 use Rattle.tv_spec_text.specs.Reports.{AreTerms, series_text}
 use Rattle.tv_spec_series.specs.Families.{Row, Family, coefficient}
+use Rattle.tv_spec_series.specs.Reduced.{full_coefficient}
 use Rattle.tv_glue_laws.specs.Full.{IsFull, IsFullRow}
 use Rattle.tv_text.specs.declared.series.Kind.TheVariants.{Full}
 use Rattle.tv_reports.specs.Sections.{IsSmall, section_of, sections_of, TellsRow}
 use Rattle.tv_reports.proofs.Sections.{sections_tell}
-use Rattle.tv_top.specs.SeriesReport.{IsFullSection, IsFullReport, full_coefficient}
+use Rattle.tv_top.specs.SeriesReport.{IsFullSection, IsFullReport}
 use Rattle.tv_top.specs.Replies.{IsPrinted, Prints, CarriesOut, IsCarriedOut}
 use Rattle.tv_top.specs.declared.command.Command.TheVariants.{Series}
 use Rattle.tv_top.specs.declared.answer.Answer.{Answer}
@@ -25,11 +26,11 @@ full_sections : (w : Web) (d : ℕ) (n : ℤ) (f : Family ℤ) (rows : List (Row
     → AllByRecursion (IsFullSection w n) (map (section_of f.heights) rows)
 full_sections w d n f [] hs u full tells small = tt
 full_sections w d n f (row ∷ rows) hs u full tells small =
-    let counts : (i : ℤ) → i ≤ℤ n → full_coefficient w row.class i ≡ coefficient wholes row.series i = λ i h. sym (full.0.counts i h ∙ whole_times-wholes (full_coefficient w row.class i)) in
+    let counts : (i : ℤ) → i ≤ℤ n → full_coefficient w (no_legs w) row.class i ≡ coefficient wholes row.series i = λ i h. sym (full.0.counts i h ∙ whole_times-wholes (full_coefficient w (no_legs w) row.class i)) in
     let terms : AreTerms (coefficient wholes row.series) n (section_of f.heights row).terms = subst (λ (k : ℤ). AreTerms (coefficient wholes row.series) k (section_of f.heights row).terms) u tells.0.terms in (
       record {
         degree = ap (λ (zs : List ℤ). degree_of zs row.class) hs;
-        terms = terms-onto (coefficient wholes row.series) (full_coefficient w row.class) n counts (section_of f.heights row).terms terms;
+        terms = terms-onto (coefficient wholes row.series) (full_coefficient w (no_legs w) row.class) n counts (section_of f.heights row).terms terms;
         small = small.0;
       },
       full_sections w d n f rows hs u full.1 tells.1 small.1,

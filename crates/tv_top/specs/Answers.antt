@@ -2,12 +2,20 @@
 --
 -- Inputs, Outputs         == the bytes that a source, or a sink, tells before and after, and its counts of faults
 -- memory_text, read_text  == the texts of want of memory and of a failed read
--- Gave io bytes           == these bytes were taken from the source, and where it tells its bytes, none are left
+-- Gave io bytes           == these bytes were taken from the source without a fault, and where it tells its bytes, none are
+--                             left
+-- DeservesDone ws io text  == the text is the report, for the command that the words ask for, of the accepted file that was
+--                             read
+-- DeservesWords ws io text == the text names the place at which the words leave every word list
+-- DeservesFile ws io text  == the text names the first check that the file fails, of which at most 65,537 bytes were taken
+-- DeservesWide ws io text  == the text names a number beyond 2^127 - 1 that the command needs of the accepted file
+-- DeservesRead ws io text  == the words are a command's, a count of faults rose, and the text is that of a failed read
 -- Deserves ws io status text == the status and its text are deserved by these words and this source
--- Told old new text rose status result == a beginning of the text was appended to the sink: all of it, with the status, or
---                             less, with WriteFault and a count of faults that rose
--- Reads ws io             == what was taken from the source, whatever is answered
--- Answers                 == some status and text are deserved, and were told
+-- Told out text status result == a beginning of the text was appended to the sink: all of it, with the status, or less, with
+--                             WriteFault and a count of faults that rose
+-- Reads ws io             == whatever is answered, at most 65,537 bytes were taken from the source, from the front, and
+--                             none where the words are refused
+-- Answers ws io out result == some status and text are deserved, and were told
 use Rattle.std.specs.Prelude.{◌≡◌, ℕ, ◌<◌, ◌≤◌, ◌⊎◌, pos, List, [], ◌∷◌, length, take, Option, codes}
 use Rattle.std.specs.Io.KnownBytes.{Appends, Consumes, IsAtEnd}
 use Rattle.tv_spec_plane.specs.Web.{Web}
@@ -41,7 +49,6 @@ pub record Gave (io : Inputs) (bytes : List ℕ) : Type 0 where
   pub ended : IsAtEnd io.after
   pub kept : io.faults_after ≡ io.faults_before
 
--- the command's report of an accepted file
 pub record DeservesDone (ws : List Word) (io : Inputs) (text : List ℕ) : Type 0 where
   pub command : Command
   pub bytes : List ℕ
@@ -51,13 +58,11 @@ pub record DeservesDone (ws : List Word) (io : Inputs) (text : List ℕ) : Type 
   pub accepted : IsAccepted bytes web
   pub report : IsReport command web text
 
--- the place at which the words leave every word list
 pub record DeservesWords (ws : List Word) (io : Inputs) (text : List ℕ) : Type 0 where
   pub place : ℕ
   pub outside : IsPlace IsCommand ws place
   pub line : text ≡ line_text (codes "refused" ∷ codes "words" ∷ spelled (pos place) ∷ [])
 
--- the first check that the file fails
 pub record DeservesFile (ws : List Word) (io : Inputs) (text : List ℕ) : Type 0 where
   pub command : Command
   pub bytes : List ℕ
@@ -69,7 +74,6 @@ pub record DeservesFile (ws : List Word) (io : Inputs) (text : List ℕ) : Type 
   pub refused : FaultOf bytes fault
   pub line : text ≡ line_text (fault_line fault)
 
--- a number that the command needs is beyond 2^127 - 1
 pub record DeservesWide (ws : List Word) (io : Inputs) (text : List ℕ) : Type 0 where
   pub command : Command
   pub bytes : List ℕ
@@ -108,7 +112,6 @@ pub record Told (out : Outputs) (text : List ℕ) (status result : Status) : Typ
   pub appended : Appends out.before out.after (take count text)
   pub ends : ((result ≡ status) × (count ≡ length text) × (out.faults_after ≡ out.faults_before)) ⊎ ((result ≡ WriteFault) × (count < length text) × Rose out.faults_before out.faults_after)
 
--- whatever is answered: at most 65,537 bytes are taken, from the front, and none where the words are refused
 pub record Reads (ws : List Word) (io : Inputs) : Type 0 where
   pub bytes : List ℕ
   pub taken : Consumes io.before io.after bytes

@@ -1,8 +1,8 @@
 -- The reports of series: every class of degree at most D that some assignment has, in order, and every coefficient other
 -- than 0 through N.
 --
--- full_coefficient w v n     == the signed count of the box configurations of class v and Euler characteristic n
--- IsFullSection w upto s     == the class with its degree, and the terms through upto of its full series
+-- IsFullSection w upto s     == the class with its degree, and the terms through upto of its full series, of the signed
+--                               counts of the box configurations of the class
 -- IsReducedSection w upto s  == the class with its degree, and the terms through upto of its reduced series: that whose
 --                               product with the full series of class zero is the full series of the class
 -- IsReportOf P title w d upto text == text is the report with that title and a section for each class of w in degree at most
@@ -16,20 +16,16 @@ use Rattle.std.specs.Prelude.{◌≡◌, ℕ, ℤ, pos, List, map, codes, ◌-�
 use Rattle.std.specs.List.{AllByRecursion}
 use Rattle.tv_spec_plane.specs.Web.{Web, degree_of}
 use Rattle.tv_spec_boxes.specs.Assignments.{no_legs}
-use Rattle.tv_spec_boxes.specs.Configurations.{signed_count}
 use Rattle.tv_spec_boxes.specs.Classes.{IsClass, AreClasses}
 use Rattle.tv_spec_boxes.specs.Numbers.{crowd}
-use Rattle.tv_spec_series.specs.Reduced.{IsReduced, IsSpread}
+use Rattle.tv_spec_series.specs.Reduced.{full_coefficient, IsReduced, IsSpread}
 use Rattle.tv_spec_text.specs.Lines.{Word}
 use Rattle.tv_spec_text.specs.Reports.{Section, AreTerms, series_text}
 use Rattle.tv_reports.specs.Sections.{IsSmall}
 
-abbrev pub full_coefficient : Web → List ℤ → ℤ → ℤ
-full_coefficient w v n = signed_count w (no_legs w) v n
-
 pub record IsFullSection (w : Web) (upto : ℤ) (s : Section) : Type 0 where
   pub degree : s.degree ≡ degree_of w.heights s.entries
-  pub terms : AreTerms (full_coefficient w s.entries) upto s.terms
+  pub terms : AreTerms (full_coefficient w (no_legs w) s.entries) upto s.terms
   pub small : IsSmall s
 
 pub record IsReducedSection (w : Web) (upto : ℤ) (s : Section) : Type 0 where

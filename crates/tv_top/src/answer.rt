@@ -11,14 +11,18 @@ use tv_text::refusal::{Refusal, print_refusal};
 /// A status and its whole text.
 #[derive(Drop)]
 pub(crate) struct Answer {
+    /// How the run ends, if the text is told.
     pub status: Status,
+    /// The bytes to be written.
     pub text: Vec<u8>,
 }
 
 /// Why there is no text of its own.
 #[derive(Drop)]
 pub(crate) enum Failure {
+    /// Memory was wanting.
     Memory,
+    /// The input could not be read.
     Read,
 }
 

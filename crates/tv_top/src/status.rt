@@ -14,7 +14,7 @@ pub enum Status {
     File,
     /// A number that the command needs exceeds 2^127 - 1.
     Wide,
-    /// A report differs from what it reports on.
+    /// A report differs from what it reports on. No command answers it.
     Differs,
     /// Memory was wanting.
     Memory,
