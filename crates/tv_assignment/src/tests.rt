@@ -4,6 +4,7 @@ ghost use Rattle.std.specs.Prelude.{◌≡◌, ◌≤◌, IfOk, length, unsigned
 ghost use Rattle.tv_spec_plane.specs.Web.{compact};
 ghost use Rattle.tv_assignment.specs.Terms.{cells_of};
 
+use crate::legs::all_legs;
 use crate::{Assignment, Corners, assignment_series, assignments_of};
 use std::alloc::Global;
 use std::test::Fail;
@@ -160,5 +161,51 @@ fn keeps_corners(rt: HostRuntime) -> Result<(), Fail> {
     let place = corners.place_of(rt.alloc(), &legs, 4)?;
     let farther = corners.at(place);
     assert!(rt; is_at(farther.coefficient(4), 13));
+    Ok(())
+}
+
+// A diagram on the first of three edges, and none on the others.
+fn on_plane(alloc: Global, rows: &[u32]) -> Result<Assignment, Fail>
+    ensures three { IfOk result (λ a. length a ≡ 3) }
+    ensures few { IfOk result (λ a. cells_of a ≤ 24) }
+{
+    let diagram = Diagram::new(rows.to_vec(alloc)?).ok_or("a diagram")?;
+    diagram.known();
+    let mut diagrams = Vec::new(alloc);
+    diagrams.push(diagram)?;
+    diagrams.push(Diagram::empty(alloc))?;
+    diagrams.push(Diagram::empty(alloc))?;
+    Ok(Assignment::new(diagrams))
+}
+
+// Whether the series of local P^2's corners are known as far as two such assignments ask together: through 3 beside no leg,
+// and through 2 beside one of one cell.
+fn prepares(alloc: Global, first: &[u32], second: &[u32]) -> Result<bool, Fail> {
+    let web = plane(alloc)?;
+    if web.compact().len() != 3 {
+        return Err("three edges".into());
+    }
+    let all = [on_plane(alloc, first)?, on_plane(alloc, second)?];
+    let mut corners: Corners<Whole> = Corners::new(alloc);
+    if corners.prepare(alloc, &web, &all, 3).is_err() {
+        return Err("too many".into());
+    }
+    let line = on_plane(alloc, &[1])?;
+    for legs in all_legs(alloc, &web, &line)? {
+        let is_bare = legs.extent() == 0;
+        let place = corners.place_of(alloc, &legs, 0)?;
+        let series = corners.at(place);
+        let (upto, last) = if is_bare { (3, 3) } else { (2, 5) };
+        if series.upto() != upto || !is_at(series.coefficient(2), last) {
+            return Ok(false);
+        }
+    }
+    Ok(true)
+}
+
+#[test]
+fn prepares_corners_in_any_order(rt: HostRuntime) -> Result<(), Fail> {
+    assert!(rt; prepares(rt.alloc(), &[], &[1])?);
+    assert!(rt; prepares(rt.alloc(), &[1], &[])?);
     Ok(())
 }

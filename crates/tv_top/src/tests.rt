@@ -53,31 +53,69 @@ fn prints_one_corner(rt: HostRuntime) -> Result<(), Fail> {
     Ok(())
 }
 
-#[test]
-fn a_failed_read_is_told(rt: HostRuntime) -> Result<(), Fail> {
-    let alloc = rt.alloc();
+// A run over one corner in which read k fails, if there is one: its status, the count of faults, and what was written.
+fn with_failed_read(alloc: Global, k: u64) -> Result<(Status, u64, MemSink), Fail> {
     let words = words(alloc, &["series", "full", "0", "4"])?;
-    let mut from = source(alloc, &[1])?;
+    let mut from = source(alloc, &[k])?;
     let mut to = sink(alloc, 10, &[])?;
     let status = run(alloc, &words, &mut from, &mut to);
-    assert!(rt; status == Status::ReadFault);
-    assert_eq!(rt; status.code(), 7);
-    assert!(rt; to.bytes() == b"refused read\n".as_slice());
+    Ok((status, from.faults(), to))
+}
+
+// The same with a write that fails: its status and what was written.
+fn with_failed_write(alloc: Global, k: u64) -> Result<(Status, MemSink), Fail> {
+    let words = words(alloc, &["series", "full", "0", "4"])?;
+    let mut from = source(alloc, &[])?;
+    let mut to = sink(alloc, 10, &[k])?;
+    let status = run(alloc, &words, &mut from, &mut to);
+    Ok((status, to))
+}
+
+fn is_read_fault(status: Status, bytes: &[u8]) -> bool {
+    status == Status::ReadFault && bytes == b"refused read\n".as_slice()
+}
+
+fn is_done(status: Status, bytes: &[u8]) -> bool {
+    status == Status::Done && bytes == REPORT
+}
+
+// Sixteen bytes a read: five reads take the file, and the sixth finds its end.
+#[test]
+fn a_failed_read_is_told(rt: HostRuntime) -> Result<(), Fail> {
+    for k in 0..6u64 {
+        let (status, faults, to) = with_failed_read(rt.alloc(), k)?;
+        assert_eq!(rt; faults, 1, "read {k}");
+        assert!(rt; is_read_fault(status, to.bytes()), "read {k}");
+        assert_eq!(rt; status.code(), 7);
+    }
     Ok(())
 }
 
 #[test]
+fn a_read_that_is_not_made_cannot_fail(rt: HostRuntime) -> Result<(), Fail> {
+    let (status, faults, to) = with_failed_read(rt.alloc(), 6)?;
+    assert_eq!(rt; faults, 0);
+    assert!(rt; is_done(status, to.bytes()));
+    Ok(())
+}
+
+// Ten bytes a write: twelve writes tell the report.
+#[test]
 fn a_failed_write_leaves_a_beginning(rt: HostRuntime) -> Result<(), Fail> {
-    let alloc = rt.alloc();
-    let words = words(alloc, &["series", "full", "0", "4"])?;
     for k in 0..12usize {
-        let mut from = source(alloc, &[])?;
-        let mut to = sink(alloc, 10, &[k as u64])?;
-        let status = run(alloc, &words, &mut from, &mut to);
+        let (status, to) = with_failed_write(rt.alloc(), k as u64)?;
         assert!(rt; status == Status::WriteFault, "write {k}");
         assert!(rt; to.bytes().len() == 10 * k, "write {k}");
         assert!(rt; REPORT.starts_with(to.bytes()), "write {k}");
     }
+    Ok(())
+}
+
+#[test]
+fn a_write_that_is_not_made_cannot_fail(rt: HostRuntime) -> Result<(), Fail> {
+    let (status, to) = with_failed_write(rt.alloc(), 12)?;
+    assert!(rt; is_done(status, to.bytes()));
+    assert_eq!(rt; to.faults(), 0);
     Ok(())
 }
 
