@@ -2,7 +2,7 @@
 --
 -- verdict_lines, verdict_text == the report that says yes
 -- differs_line n series product v == the first place where product and series differ, with both values
--- spread_line n v, majorant_line n v == a number that is too wide, at an exponent of a class
+-- majorant_line n v == the line of a class v and an exponent n at which the majorant is too wide
 -- long_report_line, report_line n == the refusals of a report: too long, and the first line outside its grammar
 use Rattle.std.specs.Prelude.{ℕ, ℤ, pos, List, [], ◌∷◌, map, codes}
 use Rattle.tv_spec_text.specs.Lines.{Line, text_of, spelled}
@@ -15,9 +15,6 @@ verdict_text = text_of verdict_lines
 
 abbrev pub differs_line : ℤ → ℤ → ℤ → List ℤ → Line
 differs_line n series product v = codes "refused" ∷ codes "differs" ∷ spelled n ∷ spelled series ∷ spelled product ∷ codes "class" ∷ map spelled v
-
-abbrev pub spread_line : ℤ → List ℤ → Line
-spread_line n v = codes "refused" ∷ codes "wide" ∷ codes "spread" ∷ spelled n ∷ codes "class" ∷ map spelled v
 
 abbrev pub majorant_line : ℤ → List ℤ → Line
 majorant_line n v = codes "refused" ∷ codes "wide" ∷ codes "majorant" ∷ spelled n ∷ codes "class" ∷ map spelled v
