@@ -2,11 +2,12 @@
 --
 -- same a b                  == the keys are found equal
 -- IsOn w a                  == a has a diagram for each compact edge, and at most 24 cells
--- IsAsked w n all legs most == the assignment of that number has a corner with these legs and as many boxes left at n
--- AreAsked w n all es       == so has, for each entry, the assignment that it names
--- IsRaised es key most new  == the entries stay, or have that number at the key
--- IsWideAt r legs most fault == a fault that is Wide names that assignment, and a count up to that many boxes is too great
--- IsWideBy r w n all fault  == a fault that is Wide names an assignment of the list that has too many
+-- IsAsked w n all legs most == the assignment most.by has a corner with these legs and at least most.boxes boxes left at n
+-- AreAsked w n all es       == so it is for each entry of a key's legs with what is asked for them
+-- IsRaised es key most new  == the entries stay, or have most at the key
+-- IsWideAt r legs most fault == a fault that is Wide names most.by, and the legs' count at some number of boxes, at most
+--                              most.boxes, times the size of one, exceeds the limit
+-- IsWideBy r w n all fault  == a fault that is Wide names an assignment of the list that has too many (IsTooMany)
 use Rattle.std.specs.Prelude.{◌≡◌, Contains, ℕ, ◌<◌, ◌≤◌, ◌*◌, ◌^◌, ◌⊎◌, ℤ, pos, ◌≤ℤ◌, Bool, List, [], length, slice_index_or, ⊤}
 use Rattle.std.specs.List.{AllByRecursion}
 use Rattle.indexmap.specs.IndexMap.{insert_entry}

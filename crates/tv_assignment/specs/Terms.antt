@@ -9,10 +9,11 @@
 -- front_times r legs i      == in how many ways i boxes are split over these corners, times one
 -- front_terms r legs k      == the series of these numbers, from exponent 0 through k
 -- IsCornerFrom r legs k s   == s is the series of the corner with these legs, known through k at least
--- IsFrontBeyond r legs k    == the ways to split at most k boxes over some first corners, times the size of one, exceed the limit
--- IsCornerBeyond r legs k   == so does the count of one of the corners for some number of boxes, at most k
+-- IsFrontBeyond r legs k    == the ways to split some number of boxes, at most k, over some first corners, times the size of
+--                              one, exceed the limit
+-- IsCornerBeyond r legs k   == so does the count of one of the corners at some number of boxes, at most k
 -- IsBeyond r legs k         == one or the other
--- IsTooMany r w fixed n a   == the same for the corners of the assignment and some number of boxes, at most those left at n
+-- IsTooMany r w fixed n a   == IsBeyond of the corners of the assignment and some number of boxes, at most those left at n
 use Rattle.std.specs.Prelude.{◌≡◌, Contains, ℕ, suc, ◌+◌, ◌*◌, ◌<◌, ◌≤◌, ◌⊎◌, ℤ, pos, ◌+ℤ◌, ◌≤ℤ◌, List, [], ◌∷◌, take, cond, nat_eq}
 use Rattle.std.specs.Int.{int_min}
 use Rattle.tv_ring.specs.Operations.{Operations, limit}

@@ -1,13 +1,16 @@
 //! Why the series of corners could not be prepared. It names an assignment by its place in a list, and no class.
 
 use std::alloc::{AllocError, AllocFailed};
+use thiserror::Error;
 
-/// A number on the way to an assignment's series is too wide, or want of memory.
-#[derive(Debug, Drop)]
+/// The sets of boxes of a corner are too many, or want of memory.
+#[derive(Debug, Drop, Error)]
 pub enum PrepareFault {
-    /// The number of an assignment for whose corners there are too many sets of boxes.
+    /// The number of an assignment with a corner whose sets of boxes, of at most the number that is left, are too many.
+    #[error("a corner of assignment {0} has too many sets of boxes")]
     Wide(usize),
     /// There is no memory left.
+    #[error("out of memory")]
     Memory,
 }
 

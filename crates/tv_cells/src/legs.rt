@@ -7,6 +7,7 @@ ghost use Rattle.tv_cells.specs.Extras.{AreDiagrams, extent};
 
 use tv_partition::diagram::Diagram;
 
+/// The diagrams of the legs along the three axes, each by the two other coordinates in the order x, y, z.
 #[derive(Drop, Debug)]
 pub struct Legs {
     pub along_x: Diagram,

@@ -7,18 +7,21 @@ ghost use Rattle.tv_cells.specs.Cells.{same, precedes, rises};
 
 use crate::cell::Cell;
 
+/// Whether the cells have the same three coordinates.
 pub fn same(c: Cell, d: Cell) -> bool
     ensures { result ≡ same c d }
 {
     c.x == d.x && (c.y == d.y && c.z == d.z)
 }
 
+/// Whether the cell is one of the cells.
 pub fn contains(cells: &[Cell], cell: Cell) -> bool
     ensures { result ≡ list_any (same cell) cells.now }
 {
     cells.iter().any(|d| same(cell, *d))
 }
 
+/// Whether `c` comes before `d`: by y - x, then x, then z. No cell comes before itself.
 pub fn precedes(c: Cell, d: Cell) -> bool
     ensures { result ≡ precedes c d }
 {
@@ -27,6 +30,7 @@ pub fn precedes(c: Cell, d: Cell) -> bool
     left < right || (left == right && (c.x < d.x || (c.x == d.x && c.z < d.z)))
 }
 
+/// Whether each cell comes before the next, so that none stands twice.
 pub fn rises(cells: &[Cell]) -> bool
     ensures { result ≡ rises cells.now }
 {

@@ -8,6 +8,8 @@ ghost use Rattle.tv_cells.specs.Grid.{diagonal_of};
 
 use crate::legs::Legs;
 
+/// One for each cell in exactly two legs and two for each in all three: what the Euler characteristic of a configuration
+/// loses at the corner (Maulik, Nekrasov, Okounkov and Pandharipande).
 pub fn overlap_cost(legs: &Legs) -> i64
     ensures { result ≡ pos (overlap_cost legs.now) }
 {

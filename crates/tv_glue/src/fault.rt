@@ -7,8 +7,9 @@ use tv_lattice::class::Class;
 /// The configurations of a class are too many, or want of memory.
 #[derive(Debug, Drop, Error)]
 pub enum GlueFault {
-    /// A class that has more configurations, with at most max(0, n - 2 L) boxes, than 2^127 - 1 (`crowd`).
-    #[error("a coefficient, or a number on the way to it, is too wide")]
+    /// A class whose configurations with at most max(0, n - 2 L) boxes (`crowd`), times the size of one, are more than
+    /// 2^127 - 1; n is the last exponent, and L is `lowest`.
+    #[error("a class has too many configurations")]
     Wide(Class),
     /// There is no memory left.
     #[error("out of memory")]

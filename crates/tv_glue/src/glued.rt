@@ -24,7 +24,7 @@ pub fn full<C: Ring>(alloc: Global, web: &GradedWeb, d: u32, n: i64) -> Result<G
     requires order { unsigned_abs n ≤ 100000000 }
     ensures full { IfOk result (λ family. IsFull C.ring web.now (no_legs web.now) d n family) }
 
-    // Wide only with a class whose configurations through n, times the size of one, are more than the limit.
+    // Wide only with a class whose crowd, times the size of one, exceeds the limit.
     ensures wide { IfErr result (λ e. OnWide e (IsCrowded C.ring web.now d n)) }
 {
     web.known();

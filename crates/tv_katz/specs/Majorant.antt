@@ -1,7 +1,7 @@
 -- The numbers that bound each step of the integers.
 --
--- slope_of i          == the least such number for one integer: a quotient rounded up
--- genus_slope is      == the least c from 0 on with g - 1 at most c times the degree, for each integer other than 0
+-- slope_of i          == the least c from 0 on with genus - 1 at most c times the degree: a quotient rounded up
+-- genus_slope is      == the least c from 0 on with that, for each integer of the list other than 0
 -- without_sign f      == the factor (1 - X)^e as (1 - X)^(-|e|), whose coefficients are all at least 0
 -- absolute_product is p == Katz's product with each factor without sign, and each power of y counted without sign
 -- counted f N v n     == |the coefficient of v at n|, and 0 beyond N

@@ -13,6 +13,7 @@ use indexmap::IndexSet;
 use std::alloc::{AllocError, Global};
 use std::marker::Model;
 
+/// All diagrams of one size, each at its place in the order.
 #[derive(Drop)]
 pub struct Diagrams {
     size: u32,
@@ -50,12 +51,14 @@ impl Diagrams {
         self.size
     }
 
+    /// How many they are: the number of partitions of the size.
     pub fn len(&self) -> usize
         ensures { result ≡ length (diagrams self.now) }
     {
         self.set.len()
     }
 
+    /// The diagram at that place, counted from 0; None beyond the last.
     pub fn at(&self, k: usize) -> Option<&Diagram>
         ensures exists { IsSome result ↔ (k < length (diagrams self.now)) }
         ensures value { option_copied result ≡ slice_get (diagrams self.now) k }

@@ -12,6 +12,7 @@ use std::alloc::{AllocError, Global};
 use std::hash::{Hash, Hasher};
 use std::marker::Model;
 
+/// A partition as a diagram: rows that fall weakly, none of them 0, with at most 24 cells in all.
 #[derive(Drop, Debug)]
 pub struct Diagram {
     rows: Vec<u32>,
@@ -86,6 +87,7 @@ impl Diagram {
         let _ = &self.rows;
     }
 
+    /// The rows, that of first entry 0 first.
     pub fn rows(&self) -> &[u32]
         ensures value { result.now ≡ self.now }
         ensures small { IsSmall self.now }
@@ -93,6 +95,7 @@ impl Diagram {
         self.rows.as_slice()
     }
 
+    /// The number of cells, at most 24.
     pub fn size(&self) -> u32
         ensures value { result ≡ size self.now }
         ensures bound { result ≤ 24 }
@@ -126,6 +129,7 @@ impl Diagram {
         shape::reach(self.rows.as_slice())
     }
 
+    /// Whether the cell (i, j) is in the diagram: row i has more than j cells.
     pub fn contains(&self, i: u32, j: u32) -> bool
         ensures { result ≡ has self.now i j }
     {

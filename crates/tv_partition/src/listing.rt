@@ -8,6 +8,8 @@ ghost use Rattle.tv_partition.specs.Within.{CanEnd, behind};
 use crate::diagram::Diagram;
 use std::alloc::{AllocError, Global};
 
+/// All diagrams of that size, at most 24, each once: of two the one with the greater row, where they first differ, comes
+/// first.
 pub fn diagrams_of(alloc: Global, size: u32) -> Result<Vec<Diagram>, AllocError>
     requires { size ≤ 24 }
     ensures { IfOk result (λ all. all.items ≡ diagrams size) }

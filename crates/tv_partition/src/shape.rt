@@ -6,6 +6,7 @@ ghost use Rattle.tv_partition.specs.Rows.{FallsFrom, IsSmall, size, has, reach, 
 
 use std::alloc::{AllocError, Global};
 
+/// Whether these are the rows of a diagram of at most 24 cells: they fall weakly, and none is 0.
 pub fn is_small(rows: &[u32]) -> bool
     ensures { IsTrue result ↔ IsSmall rows.now }
 {
@@ -25,6 +26,7 @@ fn falls_within(rows: &[u32], top: u32, left: u32) -> bool
     falls_within(rest, *row, left - *row)
 }
 
+/// The sum of the rows: the number of cells.
 pub fn size(rows: &[u32]) -> u32
     requires { size rows.now < 2 ^ 32 }
     ensures { result ≡ size rows.now }
@@ -35,6 +37,7 @@ pub fn size(rows: &[u32]) -> u32
     *row + size(rest)
 }
 
+/// The least number that no entry of a cell reaches: the greater of the number of rows and the first row.
 #[tactic(auto, using(crate::proofs::Bounds::bounds))]
 pub fn reach(rows: &[u32]) -> u32
     requires { IsSmall rows.now }
@@ -75,6 +78,7 @@ fn longer(j: u32, row: u32) -> u32
     if j < row { 1 } else { 0 }
 }
 
+/// The rows of the diagram with the two entries of each cell exchanged.
 #[tactic(auto, using(crate::proofs::Flip::flips))]
 pub fn flipped(alloc: Global, rows: &[u32]) -> Result<Vec<u32>, AllocError>
     requires { IsSmall rows.now }
@@ -87,6 +91,7 @@ pub fn flipped(alloc: Global, rows: &[u32]) -> Result<Vec<u32>, AllocError>
     Ok(columns)
 }
 
+/// Whether row i has more than j cells.
 pub fn has(rows: &[u32], i: u32, j: u32) -> bool
     ensures { result ≡ has rows.now i j }
 {

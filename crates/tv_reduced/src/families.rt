@@ -35,8 +35,8 @@ pub fn reduced<C: Ring>(
     requires order { unsigned_abs n ≤ 64 }
     ensures reduced { IfOk result (λ family. IsReducedFamily C.ring web.now (no_legs web.now) d n family) }
 
-    // Crowd only with a class of too many configurations, Spread only with a class and an exponent at which the numbers that
-    // meet in the division are too large.
+    // Crowd only with a class whose crowd, times the size of one, exceeds the limit; Spread only with a class and an
+    // exponent at which what meets in the division, times the size of one, does.
     ensures wide { IfErr result (IsReducedFault C.ring web.now d n) }
 {
     web.known();

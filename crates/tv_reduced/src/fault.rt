@@ -4,15 +4,16 @@ use std::alloc::{AllocError, AllocFailed};
 use thiserror::Error;
 use tv_lattice::class::Class;
 
-/// The configurations of a class are too many, the sizes that meet in a division are too great, or there is no memory.
+/// The configurations of a class are too many, the sizes that meet in a division are too large, or there is no memory.
 #[derive(Debug, Drop, Error)]
 pub enum ReducedFault {
-    /// A class that has more configurations with at most max(0, n - 2 L) boxes than 2^127 - 1, where n is the last exponent and
-    /// L is `lowest`, below which every full series is 0.
-    #[error("a full coefficient, or a number on the way to it, is too wide")]
+    /// A class whose configurations with at most max(0, n - 2 L) boxes (`crowd`), times the size of one, are more than
+    /// 2^127 - 1; n is the last exponent, and L is `lowest`.
+    #[error("a class has too many configurations")]
     Crowd(Class),
-    /// A class, and an exponent at which the sizes that meet in the division of its series add up to more than 2^127 - 1.
-    #[error("a number on the way to a reduced coefficient is too wide")]
+    /// A class, and an exponent at which the sizes that meet in the division of its series, times the size of one, add up to
+    /// more than 2^127 - 1.
+    #[error("the numbers that meet in the division of a series are too large")]
     Spread { class: Class, exponent: i64 },
     /// There is no memory left.
     #[error("out of memory")]

@@ -10,10 +10,11 @@ use tv_lattice::class::Class;
 use tv_lattice::fault::{Excess, FileFault};
 
 /// A number beyond 2^127 - 1, by the class at which it is. The series is asked for in degrees through D, with exponents
-/// through N; L is the least of 0 and of the exponents at which the assignments of diagrams of degree at most D start.
+/// through N.
 #[derive(Debug, Drop)]
 pub enum WideNumber {
-    /// A class that has more than 2^127 - 1 configurations with at most max(0, N - 2 L) boxes.
+    /// A class that has more than 2^127 - 1 configurations with at most max(0, N - 2 L) boxes. L, at most 0, is `lowest`:
+    /// the least, over the assignments of degree at most D, of the sum of min(0, edge cost) less the overlap costs.
     Crowd(Class),
     /// A class and an exponent at which the sizes that meet in the division of its series add up to more.
     Spread { class: Class, exponent: i64 },
