@@ -8,6 +8,7 @@ use crate::{Coefficient, LPoly, Series, SeriesFault};
 use std::alloc::Global;
 use std::test::Fail;
 use tv_ring::{Residue, Ring, RingFault, Whole};
+use tv_terms::laws;
 
 // 2^126
 const HALF: i128 = 85070591730234615865843651857942052864;
@@ -246,5 +247,13 @@ fn polynomials_over_polynomials(rt: HostRuntime) -> Result<(), Fail> {
         )
     );
     assert_eq!(rt; squares.reach(), 2);
+    Ok(())
+}
+
+#[test]
+fn laws_over_whole_numbers() -> Result<(), Fail> {
+    laws::sums_and_products_of_series::<Whole>();
+    laws::quotients_of_series::<Whole>();
+    laws::polynomials_are_a_ring::<Whole>();
     Ok(())
 }

@@ -1,7 +1,8 @@
 -- What is left to count where some cells are chosen already.
 --
 -- rest legs chosen cells n      == the number of sublists of n of the cells that are extras with the chosen cells
--- enters legs chosen c          == c is in no leg, and one step lower along y and z is the union of legs and chosen
+-- enters legs chosen c          == c is in no leg, and the cells one step lower along y and z, where there are such, are in
+--                                  the union of legs and chosen
 -- leaves_gap legs chosen c      == c is in no leg, and the cell one step higher along x is chosen
 use Rattle.std.specs.Prelude.{ℕ, ◌+◌, ◌-◌, Bool, ◌&&◌, ◌||◌, List, ◌++◌, filter, length, nat_eq}
 use Rattle.std.specs.List.{list_any}
