@@ -1,9 +1,10 @@
 -- The point (1/2, 1/5) lies in both of two overlapping triangles of the square.
+use Rattle.std.specs.List.{AllByRecursion}
 use Rattle.std.proofs.Common.{◌≡◌, ◌≢◌, ℕ, zero, suc, ◌<◌, pos, inl, refl, arith}
 use Rattle.std.proofs.lemmas.Int.{ints}
 use Rattle.tv_spec_plane.specs.Plane.{at, turn}
-use Rattle.tv_spec_plane.specs.Tiling.{side, IsGeneric, IsInHull, IsInTriangle, triangle_at}
-use Rattle.tv_examples.specs.Squares.{square, overlapping, middle, OverlappingTrianglesDoNotTile}
+use Rattle.tv_spec_plane.specs.Tiling.{side, IsGeneric, IsInHull, IsInTriangle, Tiles, triangle_at}
+use Rattle.tv_examples.specs.Squares.{square, rising, overlapping, middle, IsUnit, area_of, OverlappingTrianglesDoNotTile}
 
 off_line : (i j : ℕ) → i < 4 → j < 4 → at square i ≢ at square j → side (at square i) (at square j) middle ≢ pos 0
 unfolding side
@@ -64,9 +65,20 @@ in_second : IsInTriangle square (triangle_at overlapping 1) middle
 unfolding side
 in_second = inl (record { ab = omega (arith, ints); bc = omega (arith, ints); ca = omega (arith, ints) })
 
-pub overlapping_do_not_tile : OverlappingTrianglesDoNotTile
-overlapping_do_not_tile tiles =
+not_tiling : Tiles square overlapping → ⊥
+not_tiling tiles =
     let one = tiles.covered middle is_generic in_hull in
     let first : 0 ≡ one.0 = one.1.only 0 (omega arith) in_first in
     let second : 1 ≡ one.0 = one.1.only 1 (omega arith) in_second in
     omega arith
+
+units : AllByRecursion IsUnit overlapping
+unfolding turn
+units = (refl, (refl, tt))
+
+same_areas : area_of overlapping ≡ area_of rising
+unfolding turn
+same_areas = refl
+
+pub overlapping_do_not_tile : OverlappingTrianglesDoNotTile
+overlapping_do_not_tile = record { unimodular = units; areas = same_areas; overlap = (in_first, (in_second, tt)); not_tiling = not_tiling }

@@ -7,7 +7,8 @@ pub fn diagonals_of_the_square_tile()
     ensures { DiagonalsTile }
 {}
 
-/// Two unimodular triangles whose areas add up to that of the unit square, and that overlap, do not tile it.
+/// Two triangles of the unit square that are unimodular and overlap at (1/2, 1/5), with areas that add up to those of
+/// the two that tile it, do not tile it.
 pub fn overlapping_triangles_do_not_tile()
     ensures { OverlappingTrianglesDoNotTile }
 {}
