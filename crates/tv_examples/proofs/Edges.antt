@@ -27,6 +27,10 @@ local_p2_even : map (λ e. even_sum local_p2.points (edge_class local_p2 e)) (co
 unfolding compact local_p2 edge_ratio turn
 local_p2_even = refl
 
+conifold_even : map (λ e. even_sum conifold.points (edge_class conifold e)) (compact conifold) ≡ negsuc 0 ∷ []
+unfolding compact conifold edge_ratio turn
+conifold_even = refl
+
 local_p2_parity : map (λ e. parity (normal_a local_p2 e)) (compact local_p2) ≡ map (λ e. parity (even_sum local_p2.points (edge_class local_p2 e))) (compact local_p2)
 unfolding compact local_p2 edge_ratio turn
 local_p2_parity = refl
