@@ -105,20 +105,20 @@ parts_even fc fd fa fb m n a b c d q ec ed ea eb em en =
     ∙ (ap (λ v. eqv v (is_even (fb *ℤ n))) (is_even-mul fa m ∙ (ap (λ v. v || is_even m) ea ∙ ap (λ v. weight_even a || v) em))
     ∙ ap (eqv (weight_even a || q)) (is_even-mul fb n ∙ (ap (λ v. v || is_even n) eb ∙ ap (λ v. weight_even b || v) en)))))
 
-rule_even_by : (a b c d p r : ℤ) → c +ℤ d ≡ (p *ℤ a) +ℤ (r *ℤ b) → is_even p ≡ is_even r → rule_even (is_even a) (is_even b) (is_even c) (is_even d) (is_even r) ≡ true
+pub rule_even_by : (a b c d p r : ℤ) → c +ℤ d ≡ (p *ℤ a) +ℤ (r *ℤ b) → is_even p ≡ is_even r → rule_even (is_even a) (is_even b) (is_even c) (is_even d) (is_even r) ≡ true
 rule_even_by a b c d p r e same =
     let left = sym (is_even-add c d) ∙ ap is_even e in
     let right = is_even-add (p *ℤ a) (r *ℤ b) ∙ (ap (λ v. eqv v (is_even (r *ℤ b))) (is_even-mul p a ∙ ap (λ v. v || is_even a) same) ∙ ap (eqv (is_even r || is_even a)) (is_even-mul r b)) in
     same-eqv (eqv (is_even c) (is_even d)) (eqv (is_even r || is_even a) (is_even r || is_even b)) (left ∙ right)
 
-even_turn : (a b c : Point) → is_even (turn a b c) ≡ turn_even (is_even a.x) (is_even a.y) (is_even b.x) (is_even b.y) (is_even c.x) (is_even c.y)
+pub even_turn : (a b c : Point) → is_even (turn a b c) ≡ turn_even (is_even a.x) (is_even a.y) (is_even b.x) (is_even b.y) (is_even c.x) (is_even c.y)
 unfolding turn
 even_turn a b c =
     let right = is_even-mul (b.x -ℤ a.x) (c.y -ℤ a.y) ∙ (ap (λ v. v || is_even (c.y -ℤ a.y)) (is_even-sub b.x a.x) ∙ ap (λ v. eqv (is_even b.x) (is_even a.x) || v) (is_even-sub c.y a.y)) in
     let left = is_even-mul (b.y -ℤ a.y) (c.x -ℤ a.x) ∙ (ap (λ v. v || is_even (c.x -ℤ a.x)) (is_even-sub b.y a.y) ∙ ap (λ v. eqv (is_even b.y) (is_even a.y) || v) (is_even-sub c.x a.x)) in
     is_even-sub ((b.x -ℤ a.x) *ℤ (c.y -ℤ a.y)) ((b.y -ℤ a.y) *ℤ (c.x -ℤ a.x)) ∙ (ap (λ v. eqv v (is_even ((b.y -ℤ a.y) *ℤ (c.x -ℤ a.x)))) right ∙ ap (eqv (eqv (is_even b.x) (is_even a.x) || eqv (is_even c.y) (is_even a.y))) left)
 
-odd_turn : (a b c d : Point) → HasSides a b c d → is_even (turn a b c) ≡ false
+pub odd_turn : (a b c d : Point) → HasSides a b c d → is_even (turn a b c) ≡ false
 odd_turn a b c d (inl ones) = ap is_even ones.0
 odd_turn a b c d (inr minus) = ap is_even minus.0
 
@@ -130,10 +130,10 @@ points_even a b c d m n r sides rule em en =
     let same = is_even-sub (pos 2) r in
     parts ∙ sum_even-is (is_even a.x) (is_even a.y) (is_even b.x) (is_even b.y) (is_even c.x) (is_even c.y) (is_even d.x) (is_even d.y) (is_even r) turned (rule_even_by a.x b.x c.x d.x (pos 2 -ℤ r) r rule.x same) (rule_even_by a.y b.y c.y d.y (pos 2 -ℤ r) r rule.y same)
 
-even_normal_a : (r : ℤ) → is_even (r -ℤ pos 2) ≡ is_even r
+pub even_normal_a : (r : ℤ) → is_even (r -ℤ pos 2) ≡ is_even r
 even_normal_a r = is_even-sub r (pos 2) ∙ eqv-true (is_even r)
 
-ratio_holds : (w : Web) (e : CompactEdge) → HasRule w e → IsRule (at w.points e.a) (at w.points e.b) (at w.points e.c) (at w.points e.d) (pos 2 -ℤ edge_ratio w e) (edge_ratio w e)
+pub ratio_holds : (w : Web) (e : CompactEdge) → HasRule w e → IsRule (at w.points e.a) (at w.points e.b) (at w.points e.c) (at w.points e.d) (pos 2 -ℤ edge_ratio w e) (edge_ratio w e)
 unfolding edge_ratio
 ratio_holds w e rule = ratio-rule (at w.points e.a) (at w.points e.b) (at w.points e.c) (at w.points e.d) rule.sides
 

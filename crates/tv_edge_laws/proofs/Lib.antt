@@ -4,3 +4,4 @@ pub mod Parity
 pub mod Bits
 pub mod Entries
 pub mod Classes
+pub mod Shown

@@ -109,7 +109,7 @@ pub is_even-mul : (x y : ℤ) → is_even (x *ℤ y) ≡ is_even x || is_even y
 is_even-mul x y = mul_by x y (halves x) (halves y)
 
 -- the remainder is known by the test
-remainder-is : (n : ℕ) → n % 2 ≡ cond (nat_eq (n % 2) 0) 0 1
+pub remainder-is : (n : ℕ) → n % 2 ≡ cond (nat_eq (n % 2) 0) 0 1
 remainder-is n = grind (arith, nat_tests)
 
 pub same_parity : (x y : ℤ) → is_even x ≡ is_even y → unsigned_abs x % 2 ≡ unsigned_abs y % 2

@@ -1,6 +1,6 @@
 //! Laws of one compact edge: each function does nothing, and its contract is a law.
 
-ghost use Rattle.tv_edge_laws.specs.Laws.{EdgeRule, ClassParity, FlatDegree};
+ghost use Rattle.tv_edge_laws.specs.Laws.{EdgeRule, ClassParity, FourParities, FlatDegree};
 
 /// Where both triangles of an edge are unimodular and lie on its two sides, exactly one pair of whole numbers meets the
 /// rule of the edge.
@@ -12,6 +12,12 @@ pub fn edge_has_one_rule()
 /// where the normal degree is.
 pub fn class_has_parity_of_normal_degree()
     ensures { ClassParity }
+{}
+
+/// The four points of an edge's two triangles show all four pairs of parities of x and y exactly where the normal degree
+/// is odd.
+pub fn four_points_show_odd_normal_degree()
+    ensures { FourParities }
 {}
 
 /// Heights i x + j y + k give the degree 0 to every edge that has the edge rule, so its degree is that of the bend of the
