@@ -2,3 +2,4 @@ pub mod Corners
 pub mod Shared
 pub mod Owners
 pub mod Rules
+pub mod Turned
