@@ -7,3 +7,4 @@ pub mod WideNumbers
 pub mod RejectedReply
 pub mod Completeness
 pub mod Sound
+pub mod AcceptedSigns

@@ -7,3 +7,4 @@ pub mod Status
 pub mod Answers
 pub mod Replies
 pub mod Completeness
+pub mod Laws

@@ -6,6 +6,7 @@ mod acceptance;
 mod answer;
 mod check;
 mod command;
+pub mod laws;
 mod reply;
 mod running;
 mod series;
