@@ -1,9 +1,56 @@
--- Worked values of the definitions of webs.
-use Rattle.std.specs.Prelude.{◌≡◌, pos, negsuc, [], ◌∷◌, map, length, refl}
+-- Worked values of the definitions of the plane and of webs.
+use Rattle.std.proofs.Common.{ap, arith}
+use Rattle.std.proofs.lemmas.Int.{ints}
+use Rattle.std.specs.Prelude.{◌≡◌, ◌≢◌, ℕ, zero, suc, ◌<◌, pos, negsuc, ◌≤ℤ◌, [], ◌∷◌, map, length, refl}
 use Rattle.tv_spec_plane.specs.declared.records.EdgeRef.TheVariants.{Compact, Outer}
-use Rattle.tv_spec_plane.specs.Plane.{turn}
+use Rattle.tv_spec_plane.specs.Plane.{Point, at, turn, doubled_area, IsBetween, IsHullSegment}
 use Rattle.tv_spec_plane.specs.Web.{compact, outer, corners, edge_ref, edge_ratio, edge_class, edge_degree, normal_a, class_sign}
-use Rattle.tv_spec_plane.proofs.Examples.{one_corner, conifold, local_p2}
+use Rattle.tv_spec_plane.proofs.Examples.{point, one_corner, conifold, local_p2}
+
+-- one corner turns counter-clockwise, and clockwise with its last two points exchanged; its doubled area is 1 in both orders
+corner_turn : turn (point (pos 0) (pos 0)) (point (pos 1) (pos 0)) (point (pos 0) (pos 1)) ≡ pos 1
+unfolding turn
+corner_turn = refl
+
+clockwise_turn : turn (point (pos 0) (pos 0)) (point (pos 0) (pos 1)) (point (pos 1) (pos 0)) ≡ negsuc 0
+unfolding turn
+clockwise_turn = refl
+
+corner_area : doubled_area (point (pos 0) (pos 0)) (point (pos 1) (pos 0)) (point (pos 0) (pos 1)) ≡ 1
+unfolding turn
+corner_area = refl
+
+clockwise_area : doubled_area (point (pos 0) (pos 0)) (point (pos 0) (pos 1)) (point (pos 1) (pos 0)) ≡ 1
+unfolding turn
+clockwise_area = refl
+
+-- its points 0 and 1 are neighbours on the hull, which lies on their left
+bottom_apart : at one_corner.points 0 ≢ at one_corner.points 1
+unfolding one_corner
+bottom_apart e = let x : pos 0 ≡ pos 1 = ap (λ (p : Point). p.x) e in cc
+
+bottom_left : (k : ℕ) → k < length one_corner.points → pos 0 ≤ℤ turn (at one_corner.points 0) (at one_corner.points 1) (at one_corner.points k)
+unfolding one_corner turn
+bottom_left zero h = omega (arith, ints)
+bottom_left (suc zero) h = omega (arith, ints)
+bottom_left (suc (suc zero)) h = omega (arith, ints)
+bottom_left (suc (suc (suc k))) h = absurd (omega arith)
+
+bottom_bare : (k : ℕ) → k < length one_corner.points → IsBetween one_corner.points 0 1 k → ⊥
+unfolding one_corner turn
+bottom_bare zero h b = let inside = b.inside in absurd (omega (arith, ints))
+bottom_bare (suc zero) h b = let inside = b.inside in absurd (omega (arith, ints))
+bottom_bare (suc (suc zero)) h b = let on_line = b.on_line in absurd (omega (arith, ints))
+bottom_bare (suc (suc (suc k))) h b = absurd (omega arith)
+
+bottom_segment : IsHullSegment one_corner.points 0 1
+unfolding one_corner
+bottom_segment = record { first_listed = omega arith; second_listed = omega arith; apart = bottom_apart; left = bottom_left; bare = bottom_bare }
+
+-- and not the other way round, where point 2 is on the right
+not_backwards : IsHullSegment one_corner.points 1 0 → ⊥
+unfolding one_corner turn
+not_backwards s = let right : pos 0 ≤ℤ negsuc 0 = s.left 2 (omega arith) in omega (arith, ints)
 
 -- local P^2 has three compact edges, each of normal degrees -3 and 1, class -3 1 1 1 and degree 1
 local_p2_edges : compact local_p2 ≡ record { a = 0; b = 1; c = 2; d = 3; corner_c = 0; corner_d = 2 } ∷ record { a = 0; b = 2; c = 1; d = 3; corner_c = 0; corner_d = 1 } ∷ record { a = 0; b = 3; c = 1; d = 2; corner_c = 2; corner_d = 1 } ∷ []
