@@ -1,3 +1,4 @@
+mod Values
 pub mod Bounds
 pub mod Flip
 pub mod Descending
