@@ -8,6 +8,9 @@ use Rattle.tv_cells.specs.Costs.{edge_cost, row_cost, rows_cost, overlap_cost, o
 abbrev no_legs : Legs
 no_legs = record { along_x = []; along_y = []; along_z = [] }
 
+abbrev one_leg : Legs
+one_leg = record { along_x = []; along_y = []; along_z = 1 ∷ [] }
+
 abbrev three_legs : Legs
 three_legs = record { along_x = 1 ∷ []; along_y = 1 ∷ []; along_z = 1 ∷ [] }
 
@@ -32,6 +35,11 @@ counts_without_legs = refl
 counts_with_three_legs : map (count three_legs) (0 ∷ 1 ∷ 2 ∷ []) ≡ 1 ∷ 3 ∷ 9 ∷ []
 unfolding count cube sublists_of
 counts_with_three_legs = refl
+
+-- beside a leg of one cell along z: 1, 2, 5
+counts_with_one_leg : map (count one_leg) (0 ∷ 1 ∷ 2 ∷ []) ≡ 1 ∷ 2 ∷ 5 ∷ []
+unfolding count cube sublists_of
+counts_with_one_leg = refl
 
 -- three legs of one cell meet in one cell
 three_legs_overlap : overlap_cost three_legs ≡ 2
