@@ -1,11 +1,15 @@
--- Worked values: a file's lines, the report of one corner, and the check of local P^2.
-use Rattle.std.specs.Prelude.{◌≡◌, ℤ, pos, negsuc, [], ◌∷◌, ◌++◌, codes, refl}
+-- Worked values: a file's lines, the first place at which lines leave the files, the report of one corner, and the check of
+-- local P^2.
+use Rattle.std.proofs.Common.{arith}
+use Rattle.std.specs.Prelude.{◌≡◌, ℤ, pos, negsuc, List, [], ◌∷◌, ◌++◌, map, codes, refl}
 use Rattle.std.specs.Fmt.{digits}
-use Rattle.tv_spec_plane.specs.Plane.{turn}
+use Rattle.tv_spec_plane.specs.declared.records.Triple.{Triple}
+use Rattle.tv_spec_plane.specs.Plane.{Point, turn}
 use Rattle.tv_spec_plane.specs.Web.{compact, outer, edge_ratio}
 use Rattle.tv_spec_plane.proofs.Examples.{one_corner, local_p2}
-use Rattle.tv_spec_text.specs.Lines.{line_text, text_of, word_lines}
-use Rattle.tv_spec_text.specs.Files.{file_lines}
+use Rattle.tv_spec_text.specs.Lines.{Line, line_text, text_of, word_lines, IsNumber}
+use Rattle.tv_spec_text.specs.Files.{first_line, point_line, triangle_line, heights_line, end_line, file_lines, Fits, IsFile}
+use Rattle.tv_spec_text.specs.Places.{IsPlace}
 use Rattle.tv_spec_text.specs.Reports.{Term, series_text}
 use Rattle.tv_spec_text.specs.Checks.{check_text}
 
@@ -16,6 +20,35 @@ one_corner_text = refl
 -- CR LF ends a line as LF does, and the last line needs no end
 read_lines : word_lines (codes "tv 1" ++ (13 ∷ 10 ∷ []) ++ codes "end") ≡ (codes "tv" ∷ codes "1" ∷ []) ∷ (codes "end" ∷ []) ∷ []
 read_lines = refl
+
+-- behind `tv 1` a point, a triangle or the heights may come, so that a file which ends there leaves the files at line 1
+nought_fits : IsNumber (pos 0)
+nought_fits = omega arith
+
+one_fits : IsNumber (pos 1)
+one_fits = omega arith
+
+one_corner_fits : Fits one_corner
+unfolding one_corner
+one_corner_fits = record {
+  points = ((nought_fits, nought_fits), ((one_fits, nought_fits), ((nought_fits, one_fits), tt)));
+  triangles = ((omega arith, omega arith, omega arith), tt);
+  heights = (nought_fits, (nought_fits, (nought_fits, tt)));
+}
+
+no_end_there : (ps : List Point) (ts : List Triple) (hs : List ℤ) (rest : List Line) → first_line ∷ end_line ∷ rest ≡ first_line ∷ (map point_line ps ++ (map triangle_line ts ++ (heights_line hs ∷ end_line ∷ []))) → ⊥
+no_end_there (p ∷ ps) ts hs rest e = cc
+no_end_there [] (t ∷ ts) hs rest e = cc
+no_end_there [] [] hs rest e = cc
+
+cut_file_place : IsPlace IsFile (first_line ∷ end_line ∷ []) 1
+unfolding one_corner
+cut_file_place = record {
+  within = omega arith;
+  before = (map point_line one_corner.points ++ (map triangle_line one_corner.triangles ++ (heights_line one_corner.heights ∷ end_line ∷ [])), (one_corner, record { fits = one_corner_fits; same = refl }));
+  outside = λ h b. no_end_there b.1.0.points b.1.0.triangles b.1.0.heights b.0 b.1.1.same;
+  short = λ e f. omega (arith, e);
+}
 
 term : ℤ → ℤ → Term
 term n v = record { exponent = n; coefficient = v }
