@@ -1,7 +1,7 @@
 -- Worked values of slices and of paths.
-use Rattle.std.specs.Prelude.{◌≡◌, ℕ, pos, negsuc, List, [], ◌∷◌, map, false, refl}
+use Rattle.std.specs.Prelude.{◌≡◌, ℕ, pos, negsuc, List, [], ◌∷◌, map, true, false, refl}
 use Rattle.tv_cells.specs.declared.legs.Legs.{Legs}
-use Rattle.tv_spec_slices.specs.Slices.{completion}
+use Rattle.tv_spec_slices.specs.Slices.{fits, extras_of, completion}
 use Rattle.tv_spec_slices.specs.Paths.{columns, shape, ways, paths, next_of, is_entry, entries}
 
 abbrev legs_of : List ℕ → List ℕ → List ℕ → Legs
@@ -11,6 +11,20 @@ legs_of x y z = record { along_x = x; along_y = y; along_z = z }
 empty_neighbours : next_of (legs_of [] [] []) (negsuc 0) (shape 0 []) 2 ≡ shape 0 [] ∷ shape 0 (1 ∷ []) ∷ shape 0 (2 ∷ []) ∷ []
 unfolding columns
 empty_neighbours = refl
+
+-- beside a leg of one cell along z the middle diagonal has one column without end, and no finite one stands there
+endless_fits : fits (legs_of [] [] (1 ∷ [])) (pos 0) (shape 1 (2 ∷ [])) ≡ true
+endless_fits = refl
+
+finite_unfit : fits (legs_of [] [] (1 ∷ [])) (pos 0) (shape 0 (5 ∷ [])) ≡ false
+finite_unfit = refl
+
+-- heights 2 and 1 on the middle diagonal are three boxes, two of them beside a leg of one cell along x
+middle_extras : extras_of (legs_of [] [] []) (pos 0) (shape 0 (2 ∷ 1 ∷ [])) ≡ 3
+middle_extras = refl
+
+beside_leg_extras : extras_of (legs_of (1 ∷ []) [] []) (pos 0) (shape 0 (2 ∷ 1 ∷ [])) ≡ 2
+beside_leg_extras = refl
 
 -- the slice of height 1 at diagonal -1 takes one box more above it
 low_completion : completion (legs_of [] [] []) (negsuc 0) (shape 0 (1 ∷ [])) ≡ 1
@@ -47,3 +61,12 @@ middle_entries = refl
 -- a slice that does not fit is none
 unfit_entry : is_entry (legs_of [] [] (1 ∷ [])) 1 (pos 0) (shape 0 (5 ∷ [])) 0 ≡ false
 unfit_entry = refl
+
+-- one box on the middle diagonal is one at cost 1, and at no cost it is none
+box_entry : is_entry (legs_of [] [] []) 1 (pos 0) (shape 0 (1 ∷ [])) 1 ≡ true
+unfolding columns ways
+box_entry = refl
+
+free_entry : is_entry (legs_of [] [] []) 1 (pos 0) (shape 0 (1 ∷ [])) 0 ≡ false
+unfolding columns ways
+free_entry = refl
