@@ -1,4 +1,4 @@
--- Worked values of Katz's product and of the integers.
+-- Worked values of binomials, of powers, of Katz's product and of the integers.
 use Rattle.std.specs.Prelude.{◌≡◌, ℕ, ℤ, pos, negsuc, List, [], ◌∷◌, map, refl}
 use Rattle.tv_ring.specs.Sums.{at}
 use Rattle.tv_terms.specs.Terms.{terms, above}
@@ -9,6 +9,24 @@ use Rattle.tv_katz.specs.Product.{times, product}
 use Rattle.tv_katz.specs.Katz.{Integer, katz}
 use Rattle.tv_katz.specs.Integers.{integers, candidates}
 use Rattle.tv_katz.specs.Majorant.{majorant, absolute_product, genus_slope}
+
+-- a binomial with an upper entry below 0, and with one that isn't
+negative_binomials : binomial (negsuc 1) 3 ∷ binomial (negsuc 0) 4 ∷ [] ≡ negsuc 3 ∷ pos 1 ∷ []
+unfolding binomial choose
+negative_binomials = refl
+
+natural_binomials : binomial (pos 3) 2 ∷ binomial (pos 0) 0 ∷ binomial (pos 2) 3 ∷ [] ≡ pos 3 ∷ pos 1 ∷ pos 0 ∷ []
+unfolding binomial choose
+natural_binomials = refl
+
+-- (1 - X)^-2 begins with 1, 2, 3, and (1 - X)^2 is 1 - 2 X + X^2
+inverse_square : map (power_at (negsuc 1)) (0 ∷ 1 ∷ 2 ∷ []) ≡ pos 1 ∷ pos 2 ∷ pos 3 ∷ []
+unfolding power_at binomial choose
+inverse_square = refl
+
+square : map (power_at (pos 2)) (0 ∷ 1 ∷ 2 ∷ 3 ∷ []) ≡ pos 1 ∷ negsuc 1 ∷ pos 1 ∷ pos 0 ∷ []
+unfolding power_at binomial choose
+square = refl
 
 conifold_heights : List ℤ
 conifold_heights = pos 0 ∷ pos 1 ∷ pos 0 ∷ pos 0 ∷ []
