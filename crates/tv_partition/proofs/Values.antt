@@ -1,6 +1,6 @@
 -- Worked values of diagrams.
 use Rattle.std.proofs.Common.{arith}
-use Rattle.std.specs.Prelude.{◌≡◌, List, [], ◌∷◌, refl}
+use Rattle.std.specs.Prelude.{◌≡◌, [], ◌∷◌, refl}
 use Rattle.tv_partition.specs.Rows.{IsDiagram, flipped, diagrams, diagrams_within}
 
 -- the three diagrams of 3 cells
