@@ -5,3 +5,4 @@ pub mod Spread
 pub mod ZeroCrowd
 pub mod Lowest
 pub mod ZeroClass
+pub mod Only

@@ -1,6 +1,8 @@
 //! Laws of reduced series: each function does nothing, and its contract is a law.
 
-ghost use Rattle.tv_reduced_laws.specs.Laws.{OnlyQuotientThrough, BeginsWithOne, NothingBelow};
+ghost use Rattle.tv_reduced_laws.specs.Laws.{OnlyQuotientThrough, BeginsWithOne, NothingBelow, ReducedIsOnly};
+
+use tv_ring::Ring;
 
 /// Of two quotients, through n, by one series that is 1 at exponent 0, each is the other through n.
 pub fn only_quotient()
@@ -16,4 +18,10 @@ pub fn class_zero_begins_with_one()
 /// of the sum of min(0, edge cost) over the compact edges less the overlap costs.
 pub fn nothing_below_the_lowest()
     ensures { NothingBelow }
+{}
+
+/// Two reduced families of one graded web, with all open edges empty, have the same classes in the same order, and the same
+/// coefficients through their order.
+pub fn reduced_is_only<C: Ring>()
+    ensures law { ReducedIsOnly C.ring }
 {}
