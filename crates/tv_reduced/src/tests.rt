@@ -7,6 +7,7 @@ use tv_degrees::grade::{GradedWeb, grade};
 use tv_graded::Graded;
 use tv_lattice::point::Point;
 use tv_laurent::Coefficient;
+use tv_reduced_laws::laws;
 use tv_ring::{Residue, Whole};
 use tv_spec_plane::records::Triple;
 use tv_triangulation::triangulate::triangulate;
@@ -83,5 +84,11 @@ fn divides_residues(rt: HostRuntime) -> Result<(), Fail> {
             "at {n}"
         );
     }
+    Ok(())
+}
+
+#[test]
+fn law_of_reduced_families() -> Result<(), Fail> {
+    laws::reduced_is_only::<Whole>();
     Ok(())
 }
