@@ -1,3 +1,5 @@
 pub mod Integers
+pub mod Lists
+pub mod Members
 pub mod Signs
 pub mod Sums
