@@ -1,33 +1,21 @@
 -- The cube of side n has exactly the cells with all entries below n, in rising order.
-use Rattle.std.proofs.Common.{◌≡◌, ℕ, suc, zero, ◌+◌, ◌-◌, ◌≤◌, ◌<◌, Bool, true, false, ◌&&◌, ◌||◌, List, [], ◌∷◌, ◌++◌, map, nat_lt, arith, refl, sym, ◌∙◌, ap, subst, inl, inr}
-use Rattle.std.specs.Prelude.{ℤ, pos, negsuc, ◌-ℤ◌, nat_abs, ⊤}
-use Rattle.std.proofs.lemmas.Bool.{and_parts, and_from, or_cases, cases_eq, cases_lt, lt-ltb, ltb-true}
+use Rattle.std.proofs.Common.{◌≡◌, ℕ, suc, zero, ◌+◌, ◌-◌, ◌≤◌, ◌<◌, Bool, true, false, ◌&&◌, List, [], ◌∷◌, map, nat_lt, arith, refl, sym, ◌∙◌, ap, subst, inl, inr}
+use Rattle.std.specs.Prelude.{ℤ, pos, negsuc, ◌-ℤ◌, nat_abs}
+use Rattle.std.proofs.lemmas.Bool.{and_parts, and_from, or_cases, or_left, or_right, cases_eq, cases_lt, lt-ltb, ltb-true}
 use Rattle.std.proofs.lemmas.Bool.Decides.{nat_tests}
 use Rattle.std.proofs.lemmas.Int.{ints}
-use Rattle.std.proofs.lemmas.List.Folds.{list_any-append}
-use Rattle.std.specs.List.{list_any, flat_map}
+use Rattle.std.specs.List.{list_any, flat_map, AllByRecursion}
+use Rattle.tv_lemmas.proofs.Lists.{list_any-map, list_any-flat_map}
+use Rattle.tv_lemmas.proofs.Members.{all-append, all-onto}
 use Rattle.tv_cells.specs.declared.cell.Cell.{Cell}
 use Rattle.tv_cells.specs.Cells.{cell, same, precedes, rises, numbers_from, below, x_from, y_from, column, diagonal, falling, cube}
 use Rattle.tv_cells.proofs.Rising.{Before, AllBefore, rises-append, rises-cons, same_is}
-use Rattle.tv_cells.proofs.Downward.{or_here, or_there}
 
-abbrev pub Each : (Cell → Type 0) → List Cell → Type 0
-Each P [] = ⊤
-Each P (c ∷ cells) = P c × Each P cells
-
-pub each-append : (P : Cell → Type 0) (front back : List Cell) → Each P front → Each P back → Each P (front ++ back)
-each-append P [] back f b = b
-each-append P (c ∷ front) back f b = (f.0, each-append P front back f.1 b)
-
-each_weaker : (P Q : Cell → Type 0) → ((c : Cell) → P c → Q c) → (cells : List Cell) → Each P cells → Each Q cells
-each_weaker P Q f [] e = tt
-each_weaker P Q f (c ∷ cells) e = (f c e.0, each_weaker P Q f cells e.1)
-
-before_each : (c : Cell) (Q : Cell → Type 0) → ((d : Cell) → Q d → precedes c d ≡ true) → (cells : List Cell) → Each Q cells → Before c cells
+before_each : (c : Cell) (Q : Cell → Type 0) → ((d : Cell) → Q d → precedes c d ≡ true) → (cells : List Cell) → AllByRecursion Q cells → Before c cells
 before_each c Q f [] e = tt
 before_each c Q f (d ∷ cells) e = (f d e.0, before_each c Q f cells e.1)
 
-all_before : (P Q : Cell → Type 0) → ((c d : Cell) → P c → Q d → precedes c d ≡ true) → (front back : List Cell) → Each P front → Each Q back → AllBefore front back
+all_before : (P Q : Cell → Type 0) → ((c d : Cell) → P c → Q d → precedes c d ≡ true) → (front back : List Cell) → AllByRecursion P front → AllByRecursion Q back → AllBefore front back
 all_before P Q f [] back p q = tt
 all_before P Q f (c ∷ front) back p q = (before_each c Q (λ d. f c d p.0) back q, all_before P Q f front back p.1 q)
 
@@ -58,18 +46,18 @@ column-rises x y k zero = refl
 column-rises x y k (suc n) =
     rises-cons (cell x y k) (map (λ z. cell x y z) (numbers_from (suc k) n)) (column-before x y k (suc k) n (omega arith)) (column-rises x y (suc k) n)
 
-column-place : (t : ℤ) (d k n : ℕ) → Each (AtPlace t d) (map (λ z. cell (d + x_from t) (d + y_from t) z) (numbers_from k n))
+column-place : (t : ℤ) (d k n : ℕ) → AllByRecursion (AtPlace t d) (map (λ z. cell (d + x_from t) (d + y_from t) z) (numbers_from k n))
 column-place t d k zero = tt
 column-place t d k (suc n) = (record { on = omega arith; place = refl }, column-place t d (suc k) n)
 
 abbrev columns : ℤ → ℕ → ℕ → ℕ → List Cell
 columns t h k n = flat_map (λ d. column t d h) (numbers_from k n)
 
-columns-place : (t : ℤ) (h j k n : ℕ) → j ≤ k → Each (FromPlace t j) (columns t h k n)
+columns-place : (t : ℤ) (h j k n : ℕ) → j ≤ k → AllByRecursion (FromPlace t j) (columns t h k n)
 columns-place t h j k zero l = tt
 columns-place t h j k (suc n) l =
-    each-append (FromPlace t j) (column t k h) (columns t h (suc k) n)
-    (each_weaker (AtPlace t k) (FromPlace t j) (λ c p. record { on = p.on; place = omega arith }) (column t k h) (column-place t k 0 h))
+    all-append (FromPlace t j) (column t k h) (columns t h (suc k) n)
+    (all-onto (AtPlace t k) (FromPlace t j) (λ c p. record { on = p.on; place = omega arith }) (column t k h) (column-place t k 0 h))
     (columns-place t h j (suc k) n (omega arith))
 
 columns-rises : (t : ℤ) (h k n : ℕ) → rises (columns t h k n) ≡ true
@@ -99,20 +87,20 @@ record OnLower (s : ℤ) (c : Cell) : Type 0 where
 diagonals_precede : (s : ℤ) (c d : Cell) → On s c → OnLower s d → precedes c d ≡ true
 diagonals_precede s c d p q =
     let first : c.y + d.x < d.y + c.x = omega (arith, q.on, q.lower) in
-    or_here (nat_lt (c.y + d.x) (d.y + c.x)) _ (lt-ltb (c.y + d.x) (d.y + c.x) first)
+    or_left (nat_lt (c.y + d.x) (d.y + c.x)) _ (lt-ltb (c.y + d.x) (d.y + c.x) first)
 
 abbrev diagonals : ℕ → ℕ → ℕ → ℤ → List Cell
 diagonals n h m s = flat_map (λ t. diagonal t (n - nat_abs t) h) (falling m s)
 
-diagonal-on : (t : ℤ) (n h : ℕ) → Each (On t) (diagonal t n h)
-diagonal-on t n h = each_weaker (FromPlace t 0) (On t) (λ c p. p.on) (diagonal t n h) (columns-place t h 0 0 n (omega arith))
+diagonal-on : (t : ℤ) (n h : ℕ) → AllByRecursion (On t) (diagonal t n h)
+diagonal-on t n h = all-onto (FromPlace t 0) (On t) (λ c p. p.on) (diagonal t n h) (columns-place t h 0 0 n (omega arith))
 
-diagonals-lower : (n h m : ℕ) (s u : ℤ) → Lower u s → Each (OnLower s) (diagonals n h m u)
+diagonals-lower : (n h m : ℕ) (s u : ℤ) → Lower u s → AllByRecursion (OnLower s) (diagonals n h m u)
 diagonals-lower n h zero s u l = tt
 diagonals-lower n h (suc m) s u l =
     let next : Lower (u -ℤ pos 1) u = lower_next u in
-    each-append (OnLower s) (diagonal u (n - nat_abs u) h) (diagonals n h m (u -ℤ pos 1))
-    (each_weaker (On u) (OnLower s) (λ c p. record { t = u; on = p; lower = l }) (diagonal u (n - nat_abs u) h) (diagonal-on u (n - nat_abs u) h))
+    all-append (OnLower s) (diagonal u (n - nat_abs u) h) (diagonals n h m (u -ℤ pos 1))
+    (all-onto (On u) (OnLower s) (λ c p. record { t = u; on = p; lower = l }) (diagonal u (n - nat_abs u) h) (diagonal-on u (n - nat_abs u) h))
     (diagonals-lower n h m s (u -ℤ pos 1) (omega arith))
 
 diagonals-rises : (n h m : ℕ) (s : ℤ) → rises (diagonals n h m s) ≡ true
@@ -140,7 +128,7 @@ record Within (n : ℕ) (c : Cell) : Type 0 where
   y_below : c.y < n
   z_below : c.z < n
 
-member_each : (n : ℕ) (c : Cell) (cells : List Cell) → Each (Within n) cells → list_any (same c) cells ≡ true → Within n c
+member_each : (n : ℕ) (c : Cell) (cells : List Cell) → AllByRecursion (Within n) cells → list_any (same c) cells ≡ true → Within n c
 member_each n c [] e any = cc
 member_each n c (d ∷ cells) e any = elim (or_cases (same c d) (list_any (same c) cells) any) [
   | inl here ↦ let at = same_is c d here in record { x_below = omega (arith, e.0.x_below); y_below = omega (arith, e.0.y_below); z_below = omega (arith, e.0.z_below) }
@@ -151,42 +139,34 @@ starts_within : (t : ℤ) → (x_from t ≤ nat_abs t) × (y_from t ≤ nat_abs 
 starts_within (pos n) = (omega arith, omega arith)
 starts_within (negsuc n) = (omega arith, omega arith)
 
-column-within : (t : ℤ) (n d k h : ℕ) → d + nat_abs t < n → k + h ≤ n → Each (Within n) (map (λ z. cell (d + x_from t) (d + y_from t) z) (numbers_from k h))
+column-within : (t : ℤ) (n d k h : ℕ) → d + nat_abs t < n → k + h ≤ n → AllByRecursion (Within n) (map (λ z. cell (d + x_from t) (d + y_from t) z) (numbers_from k h))
 column-within t n d k zero l m = tt
 column-within t n d k (suc h) l m =
     let start = starts_within t in
     (record { x_below = omega arith; y_below = omega arith; z_below = omega arith }, column-within t n d (suc k) h l (omega arith))
 
-columns-within : (t : ℤ) (n k m : ℕ) → k + m ≤ n - nat_abs t → Each (Within n) (columns t n k m)
+columns-within : (t : ℤ) (n k m : ℕ) → k + m ≤ n - nat_abs t → AllByRecursion (Within n) (columns t n k m)
 columns-within t n k zero l = tt
 columns-within t n k (suc m) l =
-    each-append (Within n) (column t k n) (columns t n (suc k) m) (column-within t n k 0 n (omega arith) (omega arith)) (columns-within t n (suc k) m (omega arith))
+    all-append (Within n) (column t k n) (columns t n (suc k) m) (column-within t n k 0 n (omega arith) (omega arith)) (columns-within t n (suc k) m (omega arith))
 
-diagonals-within : (n m : ℕ) (s : ℤ) → Each (Within n) (diagonals n n m s)
+diagonals-within : (n m : ℕ) (s : ℤ) → AllByRecursion (Within n) (diagonals n n m s)
 diagonals-within n zero s = tt
 diagonals-within n (suc m) s =
-    each-append (Within n) (diagonal s (n - nat_abs s) n) (diagonals n n m (s -ℤ pos 1)) (columns-within s n 0 (n - nat_abs s) (omega arith)) (diagonals-within n m (s -ℤ pos 1))
+    all-append (Within n) (diagonal s (n - nat_abs s) n) (diagonals n n m (s -ℤ pos 1)) (columns-within s n 0 (n - nat_abs s) (omega arith)) (diagonals-within n m (s -ℤ pos 1))
 
 any-numbers : (p : ℕ → Bool) (k n j : ℕ) → k ≤ j → j < k + n → p j ≡ true → list_any p (numbers_from k n) ≡ true
 any-numbers p k zero j l m e = absurd (omega arith)
 any-numbers p k (suc n) j l m e = elim (cases_eq k j) [
-  | inl here ↦ or_here (p k) (list_any p (numbers_from (suc k) n)) (ap p here ∙ e)
-  | inr later ↦ or_there (p k) (list_any p (numbers_from (suc k) n)) (any-numbers p (suc k) n j (omega arith) (omega arith) e)
+  | inl here ↦ or_left (p k) (list_any p (numbers_from (suc k) n)) (ap p here ∙ e)
+  | inr later ↦ or_right (p k) (list_any p (numbers_from (suc k) n)) (any-numbers p (suc k) n j (omega arith) (omega arith) e)
 ]
-
-any-map : (p : Cell → Bool) (f : ℕ → Cell) (ks : List ℕ) → list_any p (map f ks) ≡ list_any (λ k. p (f k)) ks
-any-map p f [] = refl
-any-map p f (k ∷ ks) = ap (λ b. p (f k) || b) (any-map p f ks)
-
-any-flat_map : {X : Type 0} (p : Cell → Bool) (f : X → List Cell) (xs : List X) → list_any p (flat_map f xs) ≡ list_any (λ x. list_any p (f x)) xs
-any-flat_map p f [] = refl
-any-flat_map p f (x ∷ xs) = list_any-append p (f x) (flat_map f xs) ∙ ap (λ b. list_any p (f x) || b) (any-flat_map p f xs)
 
 diagonal_has : (t : ℤ) (d m h : ℕ) (c : Cell) → c.x ≡ d + x_from t → c.y ≡ d + y_from t → d < m → c.z < h → list_any (same c) (diagonal t m h) ≡ true
 diagonal_has t d m h c ex ey l k =
-    any-flat_map (same c) (λ d. column t d h) (below m)
+    list_any-flat_map (same c) (λ d. column t d h) (below m)
     ∙ any-numbers (λ d. list_any (same c) (column t d h)) 0 m d (omega arith) (omega arith)
-    (any-map (same c) (λ z. cell (d + x_from t) (d + y_from t) z) (below h)
+    (list_any-map (same c) (λ z. cell (d + x_from t) (d + y_from t) z) (below h)
     ∙ any-numbers (λ z. same c (cell (d + x_from t) (d + y_from t) z)) 0 h c.z (omega arith) (omega arith) (same_when c (cell (d + x_from t) (d + y_from t) c.z) ex ey refl))
   where
     same_when : (a b : Cell) → a.x ≡ b.x → a.y ≡ b.y → a.z ≡ b.z → same a b ≡ true
@@ -200,9 +180,9 @@ less_more u k = omega (arith, ints)
 
 any-falling : (p : ℤ → Bool) (m : ℕ) (u : ℤ) (k : ℕ) → k < m → p (u -ℤ pos k) ≡ true → list_any p (falling m u) ≡ true
 any-falling p zero u k l e = absurd (omega arith)
-any-falling p (suc m) u zero l e = or_here (p u) (list_any p (falling m (u -ℤ pos 1))) (ap p (sym (less_none u)) ∙ e)
+any-falling p (suc m) u zero l e = or_left (p u) (list_any p (falling m (u -ℤ pos 1))) (ap p (sym (less_none u)) ∙ e)
 any-falling p (suc m) u (suc k) l e =
-    or_there (p u) (list_any p (falling m (u -ℤ pos 1))) (any-falling p m (u -ℤ pos 1) k (omega arith) (ap p (less_more u k) ∙ e))
+    or_right (p u) (list_any p (falling m (u -ℤ pos 1))) (any-falling p m (u -ℤ pos 1) k (omega arith) (ap p (less_more u k) ∙ e))
 
 reaches_pos : (n k a : ℕ) → n ≡ k + a → pos n -ℤ pos k ≡ pos a
 reaches_pos n k a e = omega (arith, ints)
@@ -216,7 +196,7 @@ diagonal_at n c t s e m = let P : ℤ → Type 0 = λ t. list_any (same c) (diag
 cube_has : (n : ℕ) (c : Cell) → Within (suc n) c → list_any (same c) (cube (suc n)) ≡ true
 unfolding cube
 cube_has n c w =
-    any-flat_map (same c) (λ t. diagonal t (suc n - nat_abs t) (suc n)) (falling (suc (n + n)) (pos n))
+    list_any-flat_map (same c) (λ t. diagonal t (suc n - nat_abs t) (suc n)) (falling (suc (n + n)) (pos n))
     ∙ any-falling (λ t. list_any (same c) (diagonal t (suc n - nat_abs t) (suc n))) (suc (n + n)) (pos n) ((n + c.y) - c.x) (omega (arith, w.x_below, w.y_below)) at
   where
     at : list_any (same c) (diagonal (pos n -ℤ pos ((n + c.y) - c.x)) (suc n - nat_abs (pos n -ℤ pos ((n + c.y) - c.x))) (suc n)) ≡ true
@@ -227,7 +207,7 @@ cube_has n c w =
           (diagonal_has (negsuc (c.y - suc c.x)) c.x (suc n - suc (c.y - suc c.x)) (suc n) c (omega arith) (omega arith) (omega (arith, w.y_below)) w.z_below)
     ]
 
-cube_within : (n : ℕ) → Each (Within n) (cube n)
+cube_within : (n : ℕ) → AllByRecursion (Within n) (cube n)
 unfolding cube
 cube_within zero = tt
 cube_within (suc n) = diagonals-within (suc n) (suc (n + n)) (pos n)

@@ -1,7 +1,7 @@
 -- The test of a list of cells and the relation that says that its union with the legs is closed downwards agree.
 use Rattle.std.proofs.Common.{◌≡◌, ℕ, suc, zero, ◌+◌, ◌-◌, ◌≤◌, Bool, true, false, ◌||◌, List, [], ◌∷◌, nat_eq, nat_lt, arith, refl, sym, ◌∙◌, ap, inl, inr}
 use Rattle.std.specs.Prelude.{IsTrue, slice_index, ◌↔◌}
-use Rattle.std.proofs.lemmas.Bool.{and_parts, and_from, or_cases, eqb-true, eq-eqb}
+use Rattle.std.proofs.lemmas.Bool.{and_parts, and_from, or_cases, or_left, or_right, eqb-true, eq-eqb}
 use Rattle.std.proofs.lemmas.Bool.Decides.{nat_tests}
 use Rattle.std.specs.List.{list_any, list_all}
 use Rattle.tv_partition.specs.Rows.{FallsFrom, IsDiagram, has}
@@ -49,14 +49,6 @@ or-rises false false false a' b' c' f g h e = cc
 bits-rise : (a b c a' b' c' : Bool) → (a ≡ true → a' ≡ true) → (b ≡ true → b' ≡ true) → (c ≡ true → c' ≡ true) → nat_lt 0 ((bit a + bit b) + bit c) ≡ true → nat_lt 0 ((bit a' + bit b') + bit c') ≡ true
 bits-rise a b c a' b' c' f g h e = some_bit a' b' c' ∙ or-rises a b c a' b' c' f g h (sym (some_bit a b c) ∙ e)
 
-pub or_here : (a b : Bool) → a ≡ true → (a || b) ≡ true
-or_here true b e = refl
-or_here false b e = cc
-
-pub or_there : (a b : Bool) → b ≡ true → (a || b) ≡ true
-or_there true b e = refl
-or_there false b e = e
-
 pub cell_is : (c d : Cell) → c.x ≡ d.x → c.y ≡ d.y → c.z ≡ d.z → c ≡ d
 cell_is c d ex ey ez = ap (λ x. cell x c.y c.z) ex ∙ (ap (λ y. cell d.x y c.z) ey ∙ ap (λ z. cell d.x d.y z) ez)
 
@@ -74,8 +66,8 @@ member_passes p c (d ∷ cells) all any = elim (or_cases (same c d) (list_any (s
 pub members_pass : (p : Cell → Bool) (cells : List Cell) → ((c : Cell) → list_any (same c) cells ≡ true → p c ≡ true) → list_all p cells ≡ true
 members_pass p [] each = refl
 members_pass p (d ∷ cells) each =
-    and_from (p d) (list_all p cells) (each d (or_here (same d d) (list_any (same d) cells) (same_itself d)))
-    (members_pass p cells (λ c m. each c (or_there (same c d) (list_any (same c) cells) m)))
+    and_from (p d) (list_all p cells) (each d (or_left (same d d) (list_any (same d) cells) (same_itself d)))
+    (members_pass p cells (λ c m. each c (or_right (same c d) (list_any (same c) cells) m)))
 
 legs-lower_x : (legs : Legs) → AreDiagrams legs → (x y z : ℕ) → nat_lt 0 (legs_at legs (cell (suc x) y z)) ≡ true → nat_lt 0 (legs_at legs (cell x y z)) ≡ true
 legs-lower_x legs d x y z =
@@ -101,10 +93,10 @@ step_down f x e =
     rest
 
 step_up : (f : ℕ → Bool) (x : ℕ) → f x ≡ true → ((y : ℕ) → f (suc y) ≡ true → f y ≡ true) → (nat_eq x 0 || f (x - 1)) ≡ true
-step_up f zero u step = or_here (nat_eq zero 0) (f (zero - 1)) refl
+step_up f zero u step = or_left (nat_eq zero 0) (f (zero - 1)) refl
 step_up f (suc x) u step =
     let at : suc x - 1 ≡ x = omega arith in
-    or_there (nat_eq (suc x) 0) (f (suc x - 1)) (ap f at ∙ step x u)
+    or_right (nat_eq (suc x) 0) (f (suc x - 1)) (ap f at ∙ step x u)
 
 -- the parts of the test of one cell
 pub record Stands (legs : Legs) (cells : List Cell) (c : Cell) : Type 0 where
@@ -134,19 +126,19 @@ union_closed legs cells d all = record { along_x = down_x; along_y = down_y; alo
   where
     down_x : (x y z : ℕ) → in_union legs cells (cell (suc x) y z) ≡ true → in_union legs cells (cell x y z) ≡ true
     down_x x y z u = elim (or_cases (nat_lt 0 (legs_at legs (cell (suc x) y z))) (list_any (same (cell (suc x) y z)) cells) u) [
-      | inl leg ↦ or_here (nat_lt 0 (legs_at legs (cell x y z))) _ (legs-lower_x legs d x y z leg)
+      | inl leg ↦ or_left (nat_lt 0 (legs_at legs (cell x y z))) _ (legs-lower_x legs d x y z leg)
       | inr m ↦ step_down (λ v. in_union legs cells (cell v y z)) x (extras_stand legs cells (cell (suc x) y z) all m).along_x
     ]
 
     down_y : (x y z : ℕ) → in_union legs cells (cell x (suc y) z) ≡ true → in_union legs cells (cell x y z) ≡ true
     down_y x y z u = elim (or_cases (nat_lt 0 (legs_at legs (cell x (suc y) z))) (list_any (same (cell x (suc y) z)) cells) u) [
-      | inl leg ↦ or_here (nat_lt 0 (legs_at legs (cell x y z))) _ (legs-lower_y legs d x y z leg)
+      | inl leg ↦ or_left (nat_lt 0 (legs_at legs (cell x y z))) _ (legs-lower_y legs d x y z leg)
       | inr m ↦ step_down (λ v. in_union legs cells (cell x v z)) y (extras_stand legs cells (cell x (suc y) z) all m).along_y
     ]
 
     down_z : (x y z : ℕ) → in_union legs cells (cell x y (suc z)) ≡ true → in_union legs cells (cell x y z) ≡ true
     down_z x y z u = elim (or_cases (nat_lt 0 (legs_at legs (cell x y (suc z)))) (list_any (same (cell x y (suc z))) cells) u) [
-      | inl leg ↦ or_here (nat_lt 0 (legs_at legs (cell x y z))) _ (legs-lower_z legs d x y z leg)
+      | inl leg ↦ or_left (nat_lt 0 (legs_at legs (cell x y z))) _ (legs-lower_z legs d x y z leg)
       | inr m ↦ step_down (λ v. in_union legs cells (cell x y v)) z (extras_stand legs cells (cell x y (suc z)) all m).along_z
     ]
 
@@ -161,7 +153,7 @@ test_from_extras legs cells e = members_pass (stands legs cells) cells each
   where
     each : (c : Cell) → list_any (same c) cells ≡ true → stands legs cells c ≡ true
     each c m =
-        let u : in_union legs cells c ≡ true = or_there (nat_lt 0 (legs_at legs c)) (list_any (same c) cells) m in
+        let u : in_union legs cells c ≡ true = or_right (nat_lt 0 (legs_at legs c)) (list_any (same c) cells) m in
         stands_when legs cells c (record {
           outside = eq-eqb (legs_at legs c) 0 (e.outside c m);
           along_x = step_up (λ v. in_union legs cells (cell v c.y c.z)) c.x u (λ x. e.closed.along_x x c.y c.z);

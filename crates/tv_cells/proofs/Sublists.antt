@@ -1,33 +1,13 @@
 -- The sublists of n members are those of that length among all sublists.
-use Rattle.std.proofs.Common.{◌≡◌, ℕ, suc, zero, Bool, true, false, ◌&&◌, List, [], ◌∷◌, ◌++◌, map, length, nat_eq, arith, refl, ◌∙◌, ap}
+use Rattle.std.proofs.Common.{◌≡◌, ℕ, suc, zero, Bool, true, false, ◌&&◌, List, [], ◌∷◌, map, length, nat_eq, arith, refl, ◌∙◌, ap}
 use Rattle.std.specs.Prelude.{filter, cond}
 use Rattle.std.proofs.lemmas.Bool.Decides.{nat_tests}
+use Rattle.std.proofs.lemmas.List.Elements.{filter-append}
+use Rattle.tv_lemmas.proofs.Lists.{filter-map, filter-none}
 use Rattle.tv_cells.specs.declared.cell.Cell.{Cell}
 use Rattle.tv_cells.specs.declared.legs.Legs.{Legs}
 use Rattle.tv_cells.specs.Cells.{sublists, sublists_of}
 use Rattle.tv_cells.specs.Extras.{is_extras}
-
-pub filter-append : (p : List Cell → Bool) (xs ys : List (List Cell)) → filter p (xs ++ ys) ≡ filter p xs ++ filter p ys
-filter-append p [] ys = refl
-filter-append p (x ∷ xs) ys =
-    let rest = filter-append p xs ys in
-    elim (p x) as (λ b. cond b (x ∷ filter p (xs ++ ys)) (filter p (xs ++ ys)) ≡ cond b (x ∷ filter p xs) (filter p xs) ++ filter p ys) [
-      | true ↦ ap (λ zs. x ∷ zs) rest
-      | false ↦ rest
-    ]
-
-pub filter-map : (p q : List Cell → Bool) (f : List Cell → List Cell) → ((s : List Cell) → p (f s) ≡ q s) → (xs : List (List Cell)) → filter p (map f xs) ≡ map f (filter q xs)
-filter-map p q f same [] = refl
-filter-map p q f same (x ∷ xs) =
-    let rest = filter-map p q f same xs in
-    rw (same x) (elim (q x) as (λ b. cond b (f x ∷ filter p (map f xs)) (filter p (map f xs)) ≡ map f (cond b (x ∷ filter q xs) (filter q xs))) [
-      | true ↦ ap (λ zs. f x ∷ zs) rest
-      | false ↦ rest
-    ])
-
-pub filter-none : (p : List Cell → Bool) → ((s : List Cell) → p s ≡ false) → (xs : List (List Cell)) → filter p xs ≡ []
-filter-none p none [] = refl
-filter-none p none (x ∷ xs) = rw (none x) (filter-none p none xs)
 
 filter_and_head : (p q : List Cell → Bool) (x : List Cell) (both passed : List (List Cell)) (b c : Bool) → p x ≡ b → both ≡ filter p passed → cond (b && c) (x ∷ both) both ≡ filter p (cond c (x ∷ passed) passed)
 filter_and_head p q x both passed true true e rest = rw e (ap (λ zs. x ∷ zs) rest)

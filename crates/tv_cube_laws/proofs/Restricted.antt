@@ -3,9 +3,10 @@ use Rattle.std.proofs.Common.{◌≡◌, ℕ, zero, suc, Bool, true, false, List
 use Rattle.std.specs.Prelude.{cond, filter}
 use Rattle.std.specs.List.{list_all}
 use Rattle.std.proofs.lemmas.Bool.{and_parts}
+use Rattle.std.proofs.lemmas.List.Elements.{filter-append}
+use Rattle.tv_lemmas.proofs.Lists.{filter-map, filter-none}
 use Rattle.tv_cells.specs.declared.cell.Cell.{Cell}
 use Rattle.tv_cells.specs.Cells.{sublists_of}
-use Rattle.tv_cells.proofs.Sublists.{filter-append, filter-map, filter-none}
 
 pub filter-of_length : (p q : List Cell → Bool) (n : ℕ) (cells : List Cell) → ((s : List Cell) → length s ≡ n → p s ≡ q s) → filter p (sublists_of n cells) ≡ filter q (sublists_of n cells)
 unfolding sublists_of

@@ -3,10 +3,11 @@ use Rattle.std.proofs.Common.{◌≡◌, Bool, true, false, ◌||◌, ◌&&◌, 
 use Rattle.std.specs.Prelude.{cond, filter}
 use Rattle.std.specs.List.{list_any}
 use Rattle.std.proofs.lemmas.Bool.Decides.{nat_tests}
+use Rattle.std.proofs.lemmas.Bool.{or_left}
 use Rattle.tv_cells.specs.declared.cell.Cell.{Cell}
 use Rattle.tv_cells.specs.Cells.{same, precedes, rises}
 use Rattle.tv_cells.proofs.Rising.{Before, before_rising, rises-tail, rises-cons, absent, same_is, same_itself}
-use Rattle.tv_cells.proofs.Downward.{cell_is, or_here}
+use Rattle.tv_cells.proofs.Downward.{cell_is}
 
 before-filter : (q : Cell → Bool) (c : Cell) (cells : List Cell) → Before c cells → Before c (filter q cells)
 before-filter q c [] b = tt
@@ -68,12 +69,12 @@ tails c x xs ys bx by e = step (same c x) refl e
 
 pub rising_same : (xs ys : List Cell) → rises xs ≡ true → rises ys ≡ true → ((c : Cell) → list_any (same c) xs ≡ list_any (same c) ys) → xs ≡ ys
 rising_same [] [] rx ry same_members = refl
-rising_same [] (y ∷ ys) rx ry same_members = absurd (let e = same_members y in let h = or_here (same y y) (list_any (same y) ys) (same_itself y) in let f : false ≡ true = e ∙ h in cc)
-rising_same (x ∷ xs) [] rx ry same_members = absurd (let e = same_members x in let h = or_here (same x x) (list_any (same x) xs) (same_itself x) in let f : false ≡ true = sym e ∙ h in cc)
+rising_same [] (y ∷ ys) rx ry same_members = absurd (let e = same_members y in let h = or_left (same y y) (list_any (same y) ys) (same_itself y) in let f : false ≡ true = e ∙ h in cc)
+rising_same (x ∷ xs) [] rx ry same_members = absurd (let e = same_members x in let h = or_left (same x x) (list_any (same x) xs) (same_itself x) in let f : false ≡ true = sym e ∙ h in cc)
 rising_same (x ∷ xs) (y ∷ ys) rx ry same_members =
     let bx = before_rising x xs rx in
     let by = before_rising y ys ry in
-    let e : x ≡ y = heads x y xs ys bx by (sym (same_members x) ∙ or_here (same x x) (list_any (same x) xs) (same_itself x)) (same_members y ∙ or_here (same y y) (list_any (same y) ys) (same_itself y)) in
+    let e : x ≡ y = heads x y xs ys bx by (sym (same_members x) ∙ or_left (same x x) (list_any (same x) xs) (same_itself x)) (same_members y ∙ or_left (same y y) (list_any (same y) ys) (same_itself y)) in
     let by' : Before x ys = rw e by in
     let rest : (c : Cell) → list_any (same c) xs ≡ list_any (same c) ys = λ c. tails c x xs ys bx by' (same_members c ∙ ap (λ (d : Cell). same c d || list_any (same c) ys) (sym e)) in
     let r : xs ≡ ys = rising_same xs ys (rises-tail x xs rx) (rises-tail y ys ry) rest in

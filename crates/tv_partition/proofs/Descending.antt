@@ -5,13 +5,13 @@ use Rattle.std.specs.List.{flat_map, IsDistinct, AllByRecursion}
 use Rattle.std.specs.Cmp.Lexicographic.{pointwise}
 use Rattle.std.proofs.lemmas.Bool.{and_from}
 use Rattle.std.proofs.lemmas.Bool.Decides.{nat_tests}
+use Rattle.tv_lemmas.proofs.Members.{all-append, all-map, all-onto}
 use Rattle.tv_partition.specs.Rows.{diagrams, diagrams_within, down_from}
 use Rattle.tv_partition.specs.Laws.{greater, descends}
 
 -- greater than each of the lists
 abbrev AboveAll : List ℕ → List (List ℕ) → Type 0
-AboveAll a [] = ⊤
-AboveAll a (b ∷ lists) = (greater a b ≡ true) × AboveAll a lists
+AboveAll a lists = AllByRecursion (λ b. greater a b ≡ true) lists
 
 abbrev Descends : List (List ℕ) → Type 0
 Descends [] = ⊤
@@ -23,16 +23,7 @@ StartsBelow top [] = ⊤
 StartsBelow top (row ∷ rows) = row < top
 
 abbrev EachBelow : ℕ → List (List ℕ) → Type 0
-EachBelow top [] = ⊤
-EachBelow top (a ∷ lists) = StartsBelow top a × EachBelow top lists
-
-above-append : (a : List ℕ) (front back : List (List ℕ)) → AboveAll a front → AboveAll a back → AboveAll a (front ++ back)
-above-append a [] back f b = b
-above-append a (c ∷ front) back f b = (f.0, above-append a front back f.1 b)
-
-below-append : (top : ℕ) (front back : List (List ℕ)) → EachBelow top front → EachBelow top back → EachBelow top (front ++ back)
-below-append top [] back f b = b
-below-append top (c ∷ front) back f b = (f.0, below-append top front back f.1 b)
+EachBelow top lists = AllByRecursion (StartsBelow top) lists
 
 greater-first : (row : ℕ) (rows a : List ℕ) → StartsBelow row a → greater (row ∷ rows) a ≡ true
 greater-first row rows [] s = refl
@@ -42,18 +33,16 @@ greater-rest : (row : ℕ) (a b : List ℕ) → greater a b ≡ true → greater
 greater-rest row a b g = grind (arith, nat_tests)
 
 above-first : (row : ℕ) (rows : List ℕ) (lists : List (List ℕ)) → EachBelow row lists → AboveAll (row ∷ rows) lists
-above-first row rows [] e = tt
-above-first row rows (a ∷ lists) e = (greater-first row rows a e.0, above-first row rows lists e.1)
+above-first row rows lists e = all-onto (StartsBelow row) (λ b. greater (row ∷ rows) b ≡ true) (greater-first row rows) lists e
 
 above-map : (row : ℕ) (a : List ℕ) (lists : List (List ℕ)) → AboveAll a lists → AboveAll (row ∷ a) (map (λ rows. row ∷ rows) lists)
-above-map row a [] e = tt
-above-map row a (b ∷ lists) e = (greater-rest row a b e.0, above-map row a lists e.1)
+above-map row a lists e = all-map (λ b. greater a b ≡ true) (λ b. greater (row ∷ a) b ≡ true) (λ rows. row ∷ rows) (greater-rest row a) lists e
 
 -- what begins with one row comes before what begins below it
 descends-join : (row : ℕ) (lists below : List (List ℕ)) → Descends lists → Descends below → EachBelow row below → Descends (map (λ rows. row ∷ rows) lists ++ below)
 descends-join row [] below d e f = e
 descends-join row (a ∷ lists) below d e f =
-    (above-append (row ∷ a) (map (λ rows. row ∷ rows) lists) below (above-map row a lists d.0) (above-first row a below f), descends-join row lists below d.1 e f)
+    (all-append (λ b. greater (row ∷ a) b ≡ true) (map (λ rows. row ∷ rows) lists) below (above-map row a lists d.0) (above-first row a below f), descends-join row lists below d.1 e f)
 
 below-map : (row top : ℕ) (lists : List (List ℕ)) → row < top → EachBelow top (map (λ rows. row ∷ rows) lists)
 below-map row top [] l = tt
@@ -62,7 +51,7 @@ below-map row top (a ∷ lists) l = (l, below-map row top lists l)
 below-rows : (f : ℕ → List (List ℕ)) (m top : ℕ) → m < top → EachBelow top (flat_map (λ row. map (λ rows. row ∷ rows) (f row)) (down_from m))
 below-rows f zero top l = tt
 below-rows f (suc m) top l =
-    below-append top (map (λ rows. suc m ∷ rows) (f (suc m))) (flat_map (λ row. map (λ rows. row ∷ rows) (f row)) (down_from m)) (below-map (suc m) top (f (suc m)) l) (below-rows f m top (omega arith))
+    all-append (StartsBelow top) (map (λ rows. suc m ∷ rows) (f (suc m))) (flat_map (λ row. map (λ rows. row ∷ rows) (f row)) (down_from m)) (below-map (suc m) top (f (suc m)) l) (below-rows f m top (omega arith))
 
 descends-rows : (f : ℕ → List (List ℕ)) → ((row : ℕ) → Descends (f row)) → (m : ℕ) → Descends (flat_map (λ row. map (λ rows. row ∷ rows) (f row)) (down_from m))
 descends-rows f each zero = tt

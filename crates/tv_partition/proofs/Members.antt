@@ -1,10 +1,11 @@
 -- The list of all diagrams of a size has exactly those.
-use Rattle.std.proofs.Common.{◌≡◌, ℕ, zero, suc, ◌-◌, ◌≤◌, ◌<◌, min, Bool, true, false, ◌||◌, List, [], ◌∷◌, ◌++◌, map, length, nat_eq, arith, refl, sym, ◌∙◌, ap, subst, inl, inr}
-use Rattle.std.specs.Prelude.{⊤, IsTrue, ◌↔◌}
-use Rattle.std.specs.List.{flat_map, list_any}
+use Rattle.std.proofs.Common.{◌≡◌, ℕ, zero, suc, ◌-◌, ◌≤◌, ◌<◌, min, Bool, true, ◌||◌, List, [], ◌∷◌, map, length, nat_eq, arith, refl, sym, ◌∙◌, ap, subst, inl, inr}
+use Rattle.std.specs.Prelude.{IsTrue, ◌↔◌}
+use Rattle.std.specs.List.{flat_map, list_any, AllByRecursion}
 use Rattle.std.specs.Cmp.Lexicographic.{pointwise}
-use Rattle.std.proofs.lemmas.Bool.{and_parts, or_cases, cases_eq, eqb-true, eq-eqb}
-use Rattle.std.proofs.lemmas.List.Folds.{list_any-append}
+use Rattle.std.proofs.lemmas.Bool.{and_parts, or_cases, or_left, or_right, cases_eq, eqb-true, eq-eqb}
+use Rattle.tv_lemmas.proofs.Lists.{list_any-flat_map}
+use Rattle.tv_lemmas.proofs.Members.{all-append, all-map}
 use Rattle.tv_partition.specs.Rows.{FallsFrom, IsDiagram, size, diagrams, diagrams_within, down_from}
 use Rattle.tv_partition.proofs.Bounds.{falling_rows, falling_is_diagram}
 
@@ -22,21 +23,15 @@ record Is (top n : ℕ) (rows : List ℕ) : Type 0 where
   cells : size rows ≡ n
 
 abbrev EachIs : ℕ → ℕ → List (List ℕ) → Type 0
-EachIs top n [] = ⊤
-EachIs top n (a ∷ lists) = Is top n a × EachIs top n lists
-
-each_is-append : (top n : ℕ) (front back : List (List ℕ)) → EachIs top n front → EachIs top n back → EachIs top n (front ++ back)
-each_is-append top n [] back f b = b
-each_is-append top n (a ∷ front) back f b = (f.0, each_is-append top n front back f.1 b)
+EachIs top n lists = AllByRecursion (Is top n) lists
 
 each_is-map : (top n row : ℕ) (lists : List (List ℕ)) → 0 < row → row ≤ top → row ≤ n → EachIs row (n - row) lists → EachIs top n (map (λ rows. row ∷ rows) lists)
-each_is-map top n row [] p l m e = tt
-each_is-map top n row (a ∷ lists) p l m e = (record { falls = (p, l, e.0.falls); cells = omega (arith, e.0.cells) }, each_is-map top n row lists p l m e.1)
+each_is-map top n row lists p l m e = all-map (Is row (n - row)) (Is top n) (λ rows. row ∷ rows) (λ rows is. record { falls = (p, l, is.falls); cells = omega (arith, is.cells) }) lists e
 
 each_is-rows : (f : ℕ → List (List ℕ)) (top n m : ℕ) → ((row : ℕ) → EachIs row (n - row) (f row)) → m ≤ top → m ≤ n → EachIs top n (flat_map (λ row. map (λ rows. row ∷ rows) (f row)) (down_from m))
 each_is-rows f top n zero each l p = tt
 each_is-rows f top n (suc m) each l p =
-    each_is-append top n (map (λ rows. suc m ∷ rows) (f (suc m))) (flat_map (λ row. map (λ rows. row ∷ rows) (f row)) (down_from m))
+    all-append (Is top n) (map (λ rows. suc m ∷ rows) (f (suc m))) (flat_map (λ row. map (λ rows. row ∷ rows) (f row)) (down_from m))
     (each_is-map top n (suc m) (f (suc m)) (omega arith) l p (each (suc m))) (each_is-rows f top n m each (omega arith) (omega arith))
 
 within-are : (k top n : ℕ) → EachIs top n (diagrams_within k top n)
@@ -54,24 +49,12 @@ member_is top n rows (a ∷ lists) e any = elim (or_cases (pointwise nat_eq rows
   | inr there ↦ member_is top n rows lists e.1 there
 ]
 
-any-flat_map : (p : List ℕ → Bool) (f : ℕ → List (List ℕ)) (xs : List ℕ) → list_any p (flat_map f xs) ≡ list_any (λ x. list_any p (f x)) xs
-any-flat_map p f [] = refl
-any-flat_map p f (x ∷ xs) = list_any-append p (f x) (flat_map f xs) ∙ ap (λ b. list_any p (f x) || b) (any-flat_map p f xs)
-
 any-down_from : (p : ℕ → Bool) (m j : ℕ) → 0 < j → j ≤ m → p j ≡ true → list_any p (down_from m) ≡ true
 any-down_from p zero j l h e = absurd (omega arith)
 any-down_from p (suc m) j l h e = elim (cases_eq (suc m) j) [
-  | inl here ↦ or_here (p (suc m)) (list_any p (down_from m)) (ap p here ∙ e)
-  | inr later ↦ or_there (p (suc m)) (list_any p (down_from m)) (any-down_from p m j l (omega arith) e)
+  | inl here ↦ or_left (p (suc m)) (list_any p (down_from m)) (ap p here ∙ e)
+  | inr later ↦ or_right (p (suc m)) (list_any p (down_from m)) (any-down_from p m j l (omega arith) e)
 ]
-  where
-    or_here : (a b : Bool) → a ≡ true → (a || b) ≡ true
-    or_here true b e = refl
-    or_here false b e = cc
-
-    or_there : (a b : Bool) → b ≡ true → (a || b) ≡ true
-    or_there true b e = refl
-    or_there false b e = e
 
 any-behind : (row : ℕ) (rows : List ℕ) (lists : List (List ℕ)) → list_any (pointwise nat_eq (row ∷ rows)) (map (λ s. row ∷ s) lists) ≡ list_any (pointwise nat_eq rows) lists
 any-behind row rows [] = refl
@@ -88,7 +71,7 @@ member_within k top (suc n) [] f s l = absurd (omega arith)
 member_within k top zero (row ∷ rows) f s l = absurd (omega (arith, f.0))
 member_within zero top (suc n) (row ∷ rows) f s l = absurd (omega arith)
 member_within (suc k) top (suc n) (row ∷ rows) f s l =
-    any-flat_map (pointwise nat_eq (row ∷ rows)) (λ r. map (λ s. r ∷ s) (diagrams_within k r (suc n - r))) (down_from (min top (suc n)))
+    list_any-flat_map (pointwise nat_eq (row ∷ rows)) (λ r. map (λ s. r ∷ s) (diagrams_within k r (suc n - r))) (down_from (min top (suc n)))
     ∙ any-down_from (λ r. list_any (pointwise nat_eq (row ∷ rows)) (map (λ s. r ∷ s) (diagrams_within k r (suc n - r)))) (min top (suc n)) row f.0 (omega (arith, f.1))
     (any-behind row rows (diagrams_within k row (suc n - row)) ∙ member_within k row (suc n - row) rows f.2 (omega arith) (omega arith))
 

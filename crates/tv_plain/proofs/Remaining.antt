@@ -1,12 +1,13 @@
 -- How the number of choices that are left splits by the first of the cells.
 use Rattle.std.proofs.Common.{◌≡◌, ℕ, suc, zero, ◌+◌, ◌-◌, ◌<◌, Bool, true, false, List, [], ◌∷◌, ◌++◌, map, length, arith, refl, sym, ◌∙◌, ap, append_assoc, append-nil, length-append}
 use Rattle.std.proofs.lemmas.List.{length-map}
+use Rattle.std.proofs.lemmas.List.Elements.{filter-append}
+use Rattle.tv_lemmas.proofs.Lists.{filter-map}
 use Rattle.std.specs.Prelude.{filter, cond}
 use Rattle.tv_cells.specs.declared.cell.Cell.{Cell}
 use Rattle.tv_cells.specs.declared.legs.Legs.{Legs}
 use Rattle.tv_cells.specs.Cells.{sublists_of, cube}
 use Rattle.tv_cells.specs.Extras.{is_extras, count, extent}
-use Rattle.tv_cells.proofs.Sublists.{filter-append, filter-map}
 use Rattle.tv_plain.specs.Rest.{rest}
 
 one_or_none : (b : Bool) → length {A = List Cell} (cond b ([] ∷ []) []) ≡ cond b 1 0

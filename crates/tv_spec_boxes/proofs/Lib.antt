@@ -1,5 +1,6 @@
 mod Values
 pub mod Sums
+pub mod Vectors
 pub mod OneCornerWeb
 pub mod OneCornerCount
 pub mod OneCornerClass

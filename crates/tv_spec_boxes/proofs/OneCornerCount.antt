@@ -1,19 +1,22 @@
 -- The signed count of a web of one triangle is the count of its corner, with the sign of the exponent.
-use Rattle.std.proofs.Common.{◌≡◌, ℕ, suc, ◌+◌, ◌-◌, ◌%◌, ◌<◌, ℤ, pos, negsuc, ◌+ℤ◌, List, [], ◌∷◌, ◌++◌, map, length, cond, Bool, true, false, refl, ap, ◌∙◌, arith, zero-add, nat_eq}
+use Rattle.std.proofs.Common.{◌≡◌, ℕ, ◌+◌, ◌-◌, ◌%◌, ◌<◌, ℤ, pos, negsuc, ◌+ℤ◌, List, [], ◌∷◌, ◌++◌, map, length, cond, Bool, true, false, refl, ap, ◌∙◌, arith, zero-add, nat_eq}
 use Rattle.std.proofs.lemmas.Int.{ints}
 use Rattle.std.proofs.lemmas.Bool.Decides.{nat_tests}
-use Rattle.std.specs.List.{flat_map}
+use Rattle.std.specs.List.{flat_map, AllByRecursion}
+use Rattle.std.proofs.lemmas.List.{length-map}
+use Rattle.std.proofs.lemmas.List.Concat.{flat_map_single}
+use Rattle.tv_lemmas.proofs.Members.{all-map, all-filter}
 use Rattle.tv_spec_plane.specs.Web.{Web, sign, degree_of}
 use Rattle.tv_cells.specs.declared.cell.Cell.{Cell}
 use Rattle.tv_cells.specs.declared.legs.Legs.{Legs}
-use Rattle.tv_cells.specs.Cells.{cube}
+use Rattle.tv_cells.specs.Cells.{cube, sublists_of}
 use Rattle.tv_cells.specs.Costs.{overlap_cost, overlaps}
 use Rattle.tv_cells.specs.Extras.{is_extras, extent, count}
 use Rattle.tv_spec_boxes.specs.Assignments.{all_legs, no_legs, zeros, assignments, choices, assignments_of, edge_costs, edge_twist, overlaps_of, weight}
-use Rattle.tv_spec_boxes.specs.Configurations.{extras_of, fillings, configuration, configurations, configuration_sign, boxes_left, chi_of, total, signed_count}
+use Rattle.tv_spec_boxes.specs.Configurations.{Configuration, extras_of, fillings, configuration, configurations, configuration_sign, boxes_left, chi_of, total, signed_count}
 use Rattle.tv_spec_boxes.specs.OneCorner.{IsOneCorner, empty_legs, with_sign, corner_coefficient}
 use Rattle.tv_spec_boxes.proofs.OneCornerWeb.{IsBare, one_corner_bare}
-use Rattle.tv_spec_boxes.proofs.Sums.{flat_map-none, flat_map-one, flat_map-last, Each, Each-map, Each-filter, Each-onto, sublists_of-length, total-ones, total-minus, total-append-nil}
+use Rattle.tv_spec_boxes.proofs.Sums.{flat_map-none, flat_map-last, sublists_of-length, total-alike, total-append-nil}
 
 -- the boxes of one corner alone
 abbrev pub alone : List Cell → List (List Cell)
@@ -28,7 +31,7 @@ part-none legs side n i b e f = let none : nat_eq (n - i) 0 ≡ false = e ∙ f 
 
 part-all : (legs : Legs) (side n i : ℕ) → nat_eq (n - i) 0 ≡ true → part legs side n i ≡ map alone (extras_of legs side i)
 unfolding part
-part-all legs side n i e = rw e (flat_map-one alone (extras_of legs side i))
+part-all legs side n i e = rw e (flat_map_single alone (extras_of legs side i))
 
 not_yet : (n i : ℕ) → i < n → nat_eq (n - i) 0 ≡ false
 not_yet n i h = grind (arith, nat_tests)
@@ -70,24 +73,23 @@ sign_alone w h n cells e = let c = no_costs w h in let twisted : configuration_s
     let at_n : pos (length cells) +ℤ pos 0 ≡ pos n = omega (arith, ints) in twisted ∙ ap sign at_n
 
 -- each configuration has it
-signs : (w : Web) → IsBare w → (n : ℕ) → Each (λ c. configuration_sign w (no_legs w) c ≡ sign (pos n)) (map (configuration []) (map alone (extras_of empty_legs n n)))
-signs w h n = Each-map (λ c. configuration_sign w (no_legs w) c ≡ sign (pos n)) (configuration []) _ (Each-map (λ cs. configuration_sign w (no_legs w) (configuration [] cs) ≡ sign (pos n)) alone _
-    (Each-onto (λ cells. length cells ≡ n) (λ cells. configuration_sign w (no_legs w) (configuration [] (alone cells)) ≡ sign (pos n)) (sign_alone w h n) _ (Each-filter (λ cells. length cells ≡ n) (is_extras empty_legs) _ (sublists_of-length n (cube (n + extent empty_legs))))))
+signs : (w : Web) → IsBare w → (n : ℕ) → AllByRecursion (λ c. configuration_sign w (no_legs w) c ≡ sign (pos n)) (map (configuration []) (map alone (extras_of empty_legs n n)))
+signs w h n =
+    let Signed : Configuration → Type 0 = λ c. configuration_sign w (no_legs w) c ≡ sign (pos n) in
+    all-map (λ cs. Signed (configuration [] cs)) Signed (configuration []) (λ cs e. e) (map alone (extras_of empty_legs n n))
+    (all-map (λ cells. length cells ≡ n) (λ cs. Signed (configuration [] cs)) alone (sign_alone w h n) (extras_of empty_legs n n)
+    (all-filter (λ cells. length cells ≡ n) (λ cells. length cells ≡ n) (is_extras empty_legs) (λ cells e on. e) (sublists_of n (cube (n + extent empty_legs))) (sublists_of-length n (cube (n + extent empty_legs)))))
 
-pub length-map : {A B : Type 0} (f : A → B) (xs : List A) → length (map f xs) ≡ length xs
-length-map f [] = refl
-length-map f (x ∷ xs) = ap suc (length-map f xs)
-
-total-with_sign : {A : Type 0} (f : A → ℤ) (even : Bool) (xs : List A) → Each (λ x. f x ≡ cond even (pos 1) (negsuc 0)) xs → total f xs ≡ with_sign even (length xs)
-total-with_sign f true xs h = total-ones f xs h
-total-with_sign f false xs h = total-minus f xs h
+total-with_sign : {A : Type 0} (f : A → ℤ) (even : Bool) (xs : List A) → AllByRecursion (λ x. f x ≡ cond even (pos 1) (negsuc 0)) xs → total f xs ≡ with_sign even (length xs)
+total-with_sign f true xs h = let e = total-alike f (pos 1) xs h in omega (arith, ints)
+total-with_sign f false xs h = let e = total-alike f (negsuc 0) xs h in omega (arith, ints)
 
 pub one_corner_count : (w : Web) → IsOneCorner w → (n : ℕ) → signed_count w (no_legs w) (zeros 3) (pos n) ≡ with_sign (nat_eq (n % 2) 0) (count empty_legs n)
 unfolding signed_count count
 one_corner_count w one n = let h = one_corner_bare w one in
     rw (list_of w h n) (total-append-nil (configuration_sign w (no_legs w)) (map (configuration []) (map alone (extras_of empty_legs n n)))
     ∙ (total-with_sign (configuration_sign w (no_legs w)) (nat_eq (n % 2) 0) _ (signs w h n)
-    ∙ ap (with_sign (nat_eq (n % 2) 0)) (length-map (configuration []) (map alone (extras_of empty_legs n n)) ∙ length-map alone (extras_of empty_legs n n))))
+    ∙ ap (with_sign (nat_eq (n % 2) 0)) (length-map (map alone (extras_of empty_legs n n)) (configuration []) ∙ length-map (extras_of empty_legs n n) alone)))
 
 pub one_corner_below : (w : Web) → IsOneCorner w → (n : ℕ) → signed_count w (no_legs w) (zeros 3) (negsuc n) ≡ pos 0
 unfolding signed_count total

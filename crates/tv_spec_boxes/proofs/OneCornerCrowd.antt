@@ -1,6 +1,7 @@
 -- A corner's count is at most the crowd of the class zero of its web.
 use Rattle.std.proofs.Common.{◌≡◌, ℕ, zero, suc, ◌+◌, ◌≤◌, ℤ, pos, List, [], ◌∷◌, length, refl, ap, sym, ◌∙◌, arith, add-zero}
 use Rattle.std.proofs.lemmas.Int.{ints}
+use Rattle.std.proofs.lemmas.List.{length-map}
 use Rattle.tv_spec_plane.specs.Web.{Web, degree_of}
 use Rattle.tv_cells.specs.Extras.{count}
 use Rattle.tv_cells.specs.Costs.{overlap_cost, overlaps}
@@ -10,7 +11,7 @@ use Rattle.tv_spec_boxes.specs.Configurations.{fillings}
 use Rattle.tv_spec_boxes.specs.Numbers.{least, lowest, box_bound, crowd_on, crowd, sum_of}
 use Rattle.tv_spec_boxes.specs.OneCorner.{IsOneCorner, empty_legs}
 use Rattle.tv_spec_boxes.proofs.OneCornerWeb.{IsBare, one_corner_bare}
-use Rattle.tv_spec_boxes.proofs.OneCornerCount.{only_assignment, only_of_class, fillings-one, alone, length-map}
+use Rattle.tv_spec_boxes.proofs.OneCornerCount.{only_assignment, only_of_class, fillings-one, alone}
 use Rattle.tv_spec_boxes.proofs.Sums.{sum_of-term}
 
 lowest_is : (w : Web) → IsBare w → (d : ℕ) → lowest w (no_legs w) d ≡ pos 0
@@ -27,7 +28,7 @@ bound_is n = simp add-zero
 
 count_is : (i : ℕ) → count empty_legs i ≡ length (fillings (empty_legs ∷ []) i i)
 unfolding count
-count_is i = sym (ap length (fillings-one empty_legs i) ∙ length-map alone _)
+count_is i = sym (ap length (fillings-one empty_legs i) ∙ length-map _ alone)
 
 crowd_is : (w : Web) → IsBare w → (n : ℕ) → crowd w (no_legs w) 0 (pos n) (zeros 3) ≡ crowd_on (empty_legs ∷ []) n + 0
 unfolding crowd sum_of

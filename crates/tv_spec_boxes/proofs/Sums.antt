@@ -1,8 +1,11 @@
 -- Lists made by flat_map and filter, and sums over them.
-use Rattle.std.proofs.Common.{◌≡◌, ℕ, zero, suc, ◌+◌, ◌<◌, ◌≤◌, ℤ, pos, negsuc, neg_ℤ, inl, inr, List, [], ◌∷◌, ◌++◌, map, filter, length, cond, Bool, true, false, refl, ap, sym, ◌∙◌, arith, add-zero}
-use Rattle.std.specs.List.{flat_map}
+use Rattle.std.proofs.Common.{◌≡◌, ℕ, zero, suc, ◌+◌, ◌<◌, ◌≤◌, ℤ, pos, inl, inr, List, [], ◌∷◌, ◌++◌, map, length, refl, ap, sym, ◌∙◌, arith, add-zero, append-nil}
+use Rattle.std.specs.Prelude.{◌+ℤ◌, ◌-ℤ◌, ◌*ℤ◌}
+use Rattle.std.specs.List.{flat_map, AllByRecursion}
 use Rattle.std.proofs.lemmas.Int.{ints}
 use Rattle.std.proofs.lemmas.Bool.{cases_eq}
+use Rattle.tv_lemmas.proofs.Integers.{mul-sub}
+use Rattle.tv_lemmas.proofs.Members.{all-append, all-map}
 use Rattle.tv_spec_plane.specs.Web.{numbers_from}
 use Rattle.tv_cells.specs.declared.cell.Cell.{Cell}
 use Rattle.tv_cells.specs.Cells.{sublists_of}
@@ -13,57 +16,42 @@ pub flat_map-none : {A B : Type 0} (xs : List A) → flat_map {A = B} (λ (x : A
 flat_map-none [] = refl
 flat_map-none (x ∷ xs) = flat_map-none xs
 
-pub flat_map-one : {A B : Type 0} (f : A → B) (xs : List A) → flat_map (λ x. f x ∷ []) xs ≡ map f xs
-flat_map-one f [] = refl
-flat_map-one f (x ∷ xs) = ap (λ ys. f x ∷ ys) (flat_map-one f xs)
-
-append-nil : {A : Type 0} (xs : List A) → xs ++ [] ≡ xs
-append-nil [] = refl
-append-nil (x ∷ xs) = ap (λ ys. x ∷ ys) (append-nil xs)
-
 -- where all but the last number give nothing
 pub flat_map-last : {B : Type 0} (F : ℕ → List B) (k n : ℕ) → ((j : ℕ) → j < k + n → F j ≡ []) → flat_map F (numbers_from k (suc n)) ≡ F (k + n)
 flat_map-last F k zero none = append-nil (F k) ∙ ap F (sym (add-zero k))
 flat_map-last F k (suc n) none = ap (λ ys. ys ++ flat_map F (numbers_from (suc k) (suc n))) (none k (omega arith)) ∙ flat_map-last F (suc k) n (λ j h. none j (omega arith)) ∙ ap F (omega arith)
 
--- every member of the list has the property
-abbrev pub Each : {A : Type 0} → (A → Type 0) → List A → Type 0
-Each P [] = Unit {0}
-Each P (x ∷ xs) = P x × Each P xs
-
-pub Each-append : {A : Type 0} (P : A → Type 0) (xs ys : List A) → Each P xs → Each P ys → Each P (xs ++ ys)
-Each-append P [] ys h k = k
-Each-append P (x ∷ xs) ys h k = (h.0, Each-append P xs ys h.1 k)
-
-pub Each-map : {A B : Type 0} (P : B → Type 0) (f : A → B) (xs : List A) → Each (λ x. P (f x)) xs → Each P (map f xs)
-Each-map P f [] h = tt
-Each-map P f (x ∷ xs) h = (h.0, Each-map P f xs h.1)
-
-pub Each-filter : {A : Type 0} (P : A → Type 0) (test : A → Bool) (xs : List A) → Each P xs → Each P (filter test xs)
-Each-filter P test [] h = tt
-Each-filter P test (x ∷ xs) h = elim (test x) as (λ b. Each P (cond b (x ∷ filter test xs) (filter test xs))) [ true ↦ (h.0, Each-filter P test xs h.1) | false ↦ Each-filter P test xs h.1 ]
-
-pub Each-onto : {A : Type 0} (P Q : A → Type 0) → ((x : A) → P x → Q x) → (xs : List A) → Each P xs → Each Q xs
-Each-onto P Q f [] h = tt
-Each-onto P Q f (x ∷ xs) h = (f x h.0, Each-onto P Q f xs h.1)
-
 -- the sublists of n members have n members
-pub sublists_of-length : (n : ℕ) (cells : List Cell) → Each (λ s. length s ≡ n) (sublists_of n cells)
+pub sublists_of-length : (n : ℕ) (cells : List Cell) → AllByRecursion (λ s. length s ≡ n) (sublists_of n cells)
 unfolding sublists_of
 sublists_of-length zero cells = (refl, tt)
 sublists_of-length (suc n) [] = tt
-sublists_of-length (suc n) (c ∷ cells) = Each-append (λ s. length s ≡ suc n) _ _ (Each-map (λ s. length s ≡ suc n) (λ s. c ∷ s) (sublists_of n cells) (Each-onto (λ s. length s ≡ n) (λ s. suc (length s) ≡ suc n) (λ s e. ap suc e) (sublists_of n cells) (sublists_of-length n cells))) (sublists_of-length (suc n) cells)
+sublists_of-length (suc n) (c ∷ cells) =
+    all-append (λ s. length s ≡ suc n) (map (λ s. c ∷ s) (sublists_of n cells)) (sublists_of (suc n) cells)
+    (all-map (λ (s : List Cell). length s ≡ n) (λ (s : List Cell). length s ≡ suc n) (λ s. c ∷ s) (λ s e. ap suc e) (sublists_of n cells) (sublists_of-length n cells))
+    (sublists_of-length (suc n) cells)
 
--- a sum of ones, and one of minus ones
-pub total-ones : {A : Type 0} (f : A → ℤ) (xs : List A) → Each (λ x. f x ≡ pos 1) xs → total f xs ≡ pos (length xs)
+-- sums of equal values, of one value, and of one member
+pub total-same : {A : Type 0} (f g : A → ℤ) (xs : List A) → AllByRecursion (λ x. f x ≡ g x) xs → total f xs ≡ total g xs
 unfolding total
-total-ones f [] h = refl
-total-ones f (x ∷ xs) h = rw (h.0, total-ones f xs h.1) (omega (arith, ints))
+total-same f g [] all = refl
+total-same f g (x ∷ xs) all = omega (arith, ints, all.0, total-same f g xs all.1)
 
-pub total-minus : {A : Type 0} (f : A → ℤ) (xs : List A) → Each (λ x. f x ≡ negsuc 0) xs → total f xs ≡ neg_ℤ (pos (length xs))
+one_more : (s : ℤ) (n : ℕ) → s *ℤ pos (suc n) ≡ s +ℤ (s *ℤ pos n)
+one_more s n =
+    let one : pos (suc n) -ℤ pos n ≡ pos 1 = omega (arith, ints) in
+    let apart = mul-sub s (pos (suc n)) (pos n) in
+    let here = rw one at apart in
+    omega (arith, ints)
+
+pub total-alike : {A : Type 0} (f : A → ℤ) (s : ℤ) (xs : List A) → AllByRecursion (λ x. f x ≡ s) xs → total f xs ≡ s *ℤ pos (length xs)
 unfolding total
-total-minus f [] h = refl
-total-minus f (x ∷ xs) h = rw (h.0, total-minus f xs h.1) (omega (arith, ints))
+total-alike f s [] all = omega (arith, ints)
+total-alike f s (x ∷ xs) all = omega (arith, ints, all.0, total-alike f s xs all.1, one_more s (length xs))
+
+pub total-one : {A : Type 0} (f : A → ℤ) (x : A) → total f (x ∷ []) ≡ f x
+unfolding total
+total-one f x = omega (arith, ints)
 
 pub total-append-nil : {A : Type 0} (f : A → ℤ) (xs : List A) → total f (xs ++ []) ≡ total f xs
 total-append-nil f xs = ap (total f) (append-nil xs)
