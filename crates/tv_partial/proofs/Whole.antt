@@ -3,11 +3,14 @@ use Rattle.std.specs.Prelude.{◌≡◌, ℕ, zero, suc, ◌+◌, ◌<◌, ◌�
 use Rattle.std.specs.List.{flat_map, filter_map, cons_option, AllByRecursion}
 use Rattle.std.proofs.Common.{refl, ap, ◌∙◌, arith}
 use Rattle.std.proofs.lemmas.Bool.Decides.{nat_tests}
+use Rattle.tv_lemmas.proofs.Lists.{filter-none, flat_map-same}
+use Rattle.tv_lemmas.proofs.Members.{all-any, all-filter}
 use Rattle.tv_spec_plane.specs.declared.records.CompactEdge.{CompactEdge}
 use Rattle.tv_spec_plane.specs.Tiling.{triangle_at}
 use Rattle.tv_spec_plane.specs.Web.{Web, compact, compact_by, compact_edge, owners, pairs, below, numbers_from, opposite, has, corner_of, sign}
 use Rattle.tv_spec_boxes.specs.Assignments.{Assignment, no_legs, legs_of, all_legs, assignments_of, edge_costs, edge_twist, overlaps_of}
 use Rattle.tv_spec_boxes.specs.Configurations.{Configuration, configuration, configurations_on, configurations, configuration_sign, fillings_of, boxes_of, total, signed_count}
+use Rattle.tv_spec_boxes.proofs.Sums.{total-same}
 use Rattle.tv_partial.specs.Partial.{is_pending, no_edge, pending, rests_on, chosen, first_legs, partial_on, partial_configurations, partial_sign, same_choice, partial_count}
 use Rattle.tv_partial.specs.Laws.{WholeIsPartial}
 
@@ -25,12 +28,8 @@ numbers_below k (suc m) n h = (less k n (omega arith), numbers_below (suc k) m n
     less : (k n : ℕ) → k < n → nat_lt k n ≡ true
     less k n h = grind (arith, nat_tests)
 
-kept : {A : Type 0} (P : A → Type 0) (p : A → Bool) (xs : List A) → AllByRecursion P xs → AllByRecursion P (filter p xs)
-kept P p [] all = tt
-kept P p (x ∷ xs) all = elim (p x) as (λ b. AllByRecursion P (cond b (x ∷ filter p xs) (filter p xs))) [ true ↦ (all.0, kept P p xs all.1) | false ↦ kept P p xs all.1 ]
-
 owners_below : (w : Web) (a b : ℕ) → AreBelow (length w.triangles) (owners w a b)
-owners_below w a b = kept (λ k. nat_lt k (length w.triangles) ≡ true) (λ t. has (triangle_at w.triangles t) a && has (triangle_at w.triangles t) b) (below (length w.triangles)) (numbers_below 0 (length w.triangles) (length w.triangles) (omega arith))
+owners_below w a b = all-filter (λ k. nat_lt k (length w.triangles) ≡ true) (λ k. nat_lt k (length w.triangles) ≡ true) (λ t. has (triangle_at w.triangles t) a && has (triangle_at w.triangles t) b) (λ k less on. less) (below (length w.triangles)) (numbers_below 0 (length w.triangles) (length w.triangles) (omega arith))
 
 edge_inside : (n a b c t d u : ℕ) → nat_lt t n ≡ true → nat_lt u n ≡ true → IsInside n (compact_edge a b c t d u)
 edge_inside n a b c t d u p q = elim (nat_lt c d) as (λ x. IsInside n (cond x (record { a = a; b = b; c = c; d = d; corner_c = t; corner_d = u }) (record { a = a; b = b; c = d; d = c; corner_c = u; corner_d = t }))) [ true ↦ (p, q) | false ↦ (q, p) ]
@@ -72,19 +71,6 @@ filter-all : {A : Type 0} (p : A → Bool) (xs : List A) → ((x : A) → p x �
 filter-all p [] h = refl
 filter-all p (x ∷ xs) h = rw (h x) (ap (λ ys. x ∷ ys) (filter-all p xs h))
 
-filter-none : {A : Type 0} (p : A → Bool) (xs : List A) → ((x : A) → p x ≡ false) → filter p xs ≡ []
-filter-none p [] h = refl
-filter-none p (x ∷ xs) h = rw (h x) (filter-none p xs h)
-
-flat_map-same : {A B : Type 0} (f g : A → List B) (xs : List A) → ((x : A) → f x ≡ g x) → flat_map f xs ≡ flat_map g xs
-flat_map-same f g [] h = refl
-flat_map-same f g (x ∷ xs) h = rw (h x, flat_map-same f g xs h) refl
-
-total-same : {A : Type 0} (f g : A → ℤ) (xs : List A) → ((x : A) → f x ≡ g x) → total f xs ≡ total g xs
-unfolding total
-total-same f g [] h = refl
-total-same f g (x ∷ xs) h = rw (h x, total-same f g xs h) refl
-
 take-maps : {A B C : Type 0} (f : B → C) (g : A → B) (xs : List A) → take (length xs) (map f (map g xs)) ≡ map f (map g xs)
 take-maps f g [] = refl
 take-maps f g (x ∷ xs) = ap (λ ys. f (g x) ∷ ys) (take-maps f g xs)
@@ -111,10 +97,10 @@ sign_all w c = ap (λ legs. sign (((edge_costs w c.diagrams +ℤ pos (boxes_of c
 all_configurations : (w : Web) (v : List ℤ) (n : ℤ) → partial_configurations w (length w.triangles) v n ≡ configurations w (no_legs w) v n
 all_configurations w v n =
     ap (flat_map (λ a. partial_on w (length w.triangles) a n)) (filter-all (rests_on (length w.triangles) (compact w)) (assignments_of w v) (λ a. rests (length w.triangles) (compact w) a (compact_inside w)))
-    ∙ flat_map-same (λ a. partial_on w (length w.triangles) a n) (λ a. configurations_on w (no_legs w) a n) (assignments_of w v) (on_all w n)
+    ∙ flat_map-same (λ a. partial_on w (length w.triangles) a n) (λ a. configurations_on w (no_legs w) a n) (on_all w n) (assignments_of w v)
 
 none_pending : (w : Web) → pending w (length w.triangles) ≡ []
-none_pending w = filter-none (λ k. is_pending (length w.triangles) (slice_index_or (compact w) k no_edge)) (below (length (compact w))) (λ k. settled (length w.triangles) (compact w) k (compact_inside w))
+none_pending w = filter-none (λ k. is_pending (length w.triangles) (slice_index_or (compact w) k no_edge)) (λ k. settled (length w.triangles) (compact w) k (compact_inside w)) (below (length (compact w)))
 
 any_choice : (w : Web) (c : Configuration) → same_choice (chosen (length w.triangles) (compact w) c.diagrams) [] ≡ true
 any_choice w c = ap (λ ds. same_choice ds []) (nothing_chosen (length w.triangles) (compact w) c.diagrams (compact_inside w))
@@ -123,7 +109,7 @@ whole_sum : (w : Web) (v : List ℤ) (n : ℤ) → partial_count w (length w.tri
 unfolding partial_count signed_count
 whole_sum w v n =
     ap (total (partial_sign w (length w.triangles))) (filter-all (λ (c : Configuration). same_choice (chosen (length w.triangles) (compact w) c.diagrams) []) (partial_configurations w (length w.triangles) v n) (any_choice w) ∙ all_configurations w v n)
-    ∙ total-same (partial_sign w (length w.triangles)) (configuration_sign w (no_legs w)) (configurations w (no_legs w) v n) (sign_all w)
+    ∙ total-same (partial_sign w (length w.triangles)) (configuration_sign w (no_legs w)) (configurations w (no_legs w) v n) (all-any (λ c. partial_sign w (length w.triangles) c ≡ configuration_sign w (no_legs w) c) (sign_all w) (configurations w (no_legs w) v n))
 
 pub whole_is_partial : WholeIsPartial
 whole_is_partial w = record { none = none_pending w; same = whole_sum w }

@@ -1,13 +1,12 @@
 -- The sign of a configuration, of all of a class and Euler characteristic, and of their count.
-use Rattle.std.specs.Prelude.{◌≡◌, Bool, cond, ℤ, pos, negsuc, ◌*ℤ◌, List, [], ◌∷◌, length}
-use Rattle.std.specs.List.{AllByRecursion}
-use Rattle.std.proofs.Common.{sym, ap, ◌∙◌, arith}
-use Rattle.std.proofs.lemmas.Int.{ints}
+use Rattle.std.specs.Prelude.{◌≡◌, Bool, cond, ℤ, pos, negsuc, List}
+use Rattle.std.proofs.Common.{sym, ap, ◌∙◌}
+use Rattle.tv_lemmas.proofs.Members.{all-onto}
 use Rattle.tv_spec_plane.specs.Web.{Web, even_sum, class_sign}
 use Rattle.tv_spec_boxes.specs.Assignments.{Rows, class_of, edge_twist}
-use Rattle.tv_spec_boxes.specs.Configurations.{Configuration, chi_of, configuration_sign, configurations, total, signed_count}
+use Rattle.tv_spec_boxes.specs.Configurations.{Configuration, chi_of, configuration_sign, configurations, signed_count}
+use Rattle.tv_spec_boxes.proofs.Sums.{total-alike}
 use Rattle.tv_edge_laws.specs.Rule.{HasEdgeRule}
-use Rattle.tv_edge_laws.proofs.Ring.{mul-add}
 use Rattle.tv_edge_laws.proofs.Parity.{is_even, eqv, is_even-add}
 use Rattle.tv_sign_laws.specs.Laws.{ConfigurationSign, OneSign, CountedSign}
 use Rattle.tv_sign_laws.proofs.EvenSums.{class_of-even}
@@ -27,18 +26,10 @@ configuration_has_sign w fixed c rules =
 one_of : (w : Web) (fixed : List Rows) (v : List ℤ) (n : ℤ) (c : Configuration) → HasEdgeRule w → IsOf w fixed v n c → configuration_sign w fixed c ≡ class_sign w.points v n
 one_of w fixed v n c rules is = configuration_has_sign w fixed c rules ∙ (ap (λ (u : List ℤ). class_sign w.points u (chi_of w fixed c)) is.class ∙ ap (class_sign w.points v) is.chi)
 
-each_of : (w : Web) (fixed : List Rows) (v : List ℤ) (n : ℤ) → HasEdgeRule w → (cs : List Configuration) → AllByRecursion (IsOf w fixed v n) cs → AllByRecursion (λ c. configuration_sign w fixed c ≡ class_sign w.points v n) cs
-each_of w fixed v n rules [] all = tt
-each_of w fixed v n rules (c ∷ cs) all = (one_of w fixed v n c rules all.0, each_of w fixed v n rules cs all.1)
-
 pub one_sign : OneSign
-one_sign w fixed v n rules = each_of w fixed v n rules (configurations w fixed v n) (configurations_are w fixed v n)
-
-total-same : {A : Type 0} (f : A → ℤ) (s : ℤ) (xs : List A) → AllByRecursion (λ x. f x ≡ s) xs → total f xs ≡ s *ℤ pos (length xs)
-unfolding total
-total-same f s [] all = omega (arith, ints)
-total-same f s (x ∷ xs) all = omega (arith, ints, all.0, total-same f s xs all.1, mul-add s (pos 1) (pos (length xs)))
+one_sign w fixed v n rules =
+    all-onto (IsOf w fixed v n) (λ c. configuration_sign w fixed c ≡ class_sign w.points v n) (λ c is. one_of w fixed v n c rules is) (configurations w fixed v n) (configurations_are w fixed v n)
 
 pub counted_sign : CountedSign
 unfolding signed_count
-counted_sign w fixed v n rules = total-same (configuration_sign w fixed) (class_sign w.points v n) (configurations w fixed v n) (one_sign w fixed v n rules)
+counted_sign w fixed v n rules = total-alike (configuration_sign w fixed) (class_sign w.points v n) (configurations w fixed v n) (one_sign w fixed v n rules)
