@@ -1,10 +1,9 @@
 -- Triangles that pass the checks tile, and triangles that tile pass them.
-use Rattle.std.proofs.Common.{◌≡◌, ℕ, zero, suc, ◌<◌, List, [], ◌∷◌, ◌++◌, length, slice_index_or, inl, inr, arith, subst}
-use Rattle.std.specs.List.{AllByRecursion, flat_map}
+use Rattle.std.proofs.Common.{◌≡◌, ℕ, List, [], ◌∷◌, inl, inr, arith}
+use Rattle.std.specs.List.{AllByRecursion}
 use Rattle.tv_spec_plane.specs.declared.records.Triple.{Triple}
 use Rattle.tv_spec_plane.specs.Plane.{Point, IsHullSegment}
 use Rattle.tv_spec_plane.specs.Tiling.{Tiles}
-use Rattle.tv_spec_hull.specs.Members.{Among, Once}
 use Rattle.tv_spec_hull.specs.Edges.{sides, edges, IsListed, AreTurned}
 use Rattle.tv_lattice.specs.Limits.{HasCoordinates}
 use Rattle.tv_lattice.specs.declared.fault.FileFault.{FileFault}
@@ -13,42 +12,20 @@ use Rattle.tv_triangulation.specs.Turned.{turned, IsUnit}
 use Rattle.tv_triangulation.specs.Checks.{IsTwice, IsUnmatched, IsBare}
 use Rattle.tv_triangulation.specs.Faults.{IsFirstFault}
 use Rattle.tv_tiling.specs.Points.{AreSmall}
-use Rattle.tv_tiling.proofs.Lists.{all-at, among-flat_map}
+use Rattle.tv_lemmas.proofs.Members.{all-at}
+use Rattle.tv_tiling.proofs.Lists.{flat_map-once_apart}
 use Rattle.tv_tiling.proofs.Exchanges.{exchanged_triangles_tile}
 use Rattle.tv_tiling_converse.proofs.Neighbours.{edges-once, edges-outer}
 use Rattle.tv_tiling_converse.proofs.Tiled.{outer-covered}
 use Rattle.tv_acceptance.specs.Triangulated.{IsTiled}
 use Rattle.tv_acceptance.proofs.Spread.{not_flat-spread}
 use Rattle.tv_triangulation.proofs.Turning.{turned-all}
+use Rattle.tv_triangulation.proofs.Tilings.{no_triple}
 use Rattle.tv_acceptance.proofs.Turning.{exchange_at, length-turned}
-
-abbrev no_triple : Triple
-no_triple = record { a = 0; b = 0; c = 0 }
 
 small_all : (ps : List Point) → AllByRecursion HasCoordinates ps → AreSmall ps
 small_all [] h = tt
 small_all (p ∷ ps) h = (record { x = h.0.0; y = h.0.1 }, small_all ps h.1)
-
-among-right : {B : Type 0} (u : B) (us vs : List B) → Among u vs → Among u (us ++ vs)
-among-right u [] vs q = q
-among-right u (v ∷ us) vs q = inr (among-right u us vs q)
-
--- no member stands in both parts of a list without repetition
-once-parts : {B : Type 0} (s : B) (us vs : List B) → Once (us ++ vs) → Among s us → Among s vs → ⊥
-once-parts s [] vs o p q = p
-once-parts s (u ∷ us) vs o (inl e) q = o.0 (among-right u us vs (subst (λ y. Among y vs) e q))
-once-parts s (u ∷ us) vs o (inr p) q = once-parts s us vs o.1 p q
-
-once-rest : {B : Type 0} (us vs : List B) → Once (us ++ vs) → Once vs
-once-rest [] vs o = o
-once-rest (u ∷ us) vs o = once-rest us vs o.1
-
-once-apart : {A B : Type 0} (f : A → List B) (d : A) (s : B) (xs : List A) → Once (flat_map f xs) → (i j : ℕ) → i < j → j < length xs → Among s (f (slice_index_or xs i d)) → Among s (f (slice_index_or xs j d)) → ⊥
-once-apart f d s [] once i j l m p q = absurd (omega arith)
-once-apart f d s (x ∷ xs) once zero zero l m p q = absurd (omega arith)
-once-apart f d s (x ∷ xs) once zero (suc j) l m p q = once-parts s (f x) (flat_map f xs) once p (among-flat_map f d s xs j (omega arith) q)
-once-apart f d s (x ∷ xs) once (suc i) zero l m p q = absurd (omega arith)
-once-apart f d s (x ∷ xs) once (suc i) (suc j) l m p q = once-apart f d s xs (once-rest (f x) (flat_map f xs) once) i j (omega arith) (omega arith) p q
 
 module _ (ps : List Point) (ts : List Triple) (coordinates : AllByRecursion HasCoordinates ps) (t : IsTiled ps ts) where
   turned_all : AreTurned ps (turned ps ts)
@@ -58,7 +35,7 @@ module _ (ps : List Point) (ts : List Triple) (coordinates : AllByRecursion HasC
   tiles_turned = (exchanged_triangles_tile ps ts (turned ps ts) (length-turned ps ts) (exchange_at ps ts)).0 t.tiles
 
   no_twice : (i j : ℕ) → IsTwice (turned ps ts) i j → ⊥
-  no_twice i j h = once-apart sides no_triple h.edge (turned ps ts) (edges-once ps (turned ps ts) (small_all ps coordinates) t.distinct turned_all tiles_turned) i j h.ordered h.listed h.shared.first h.shared.second
+  no_twice i j h = flat_map-once_apart sides no_triple h.edge (turned ps ts) (edges-once ps (turned ps ts) (small_all ps coordinates) t.distinct turned_all tiles_turned) i j h.ordered h.listed h.shared.first h.shared.second
 
   no_unmatched : (a b : ℕ) → IsUnmatched (IsHullSegment ps) (edges (turned ps ts)) a b → ⊥
   no_unmatched a b h = elim (edges-outer ps (turned ps ts) (small_all ps coordinates) t.distinct turned_all tiles_turned (a, b) h.edge) [ inl p ↦ h.lone p | inr p ↦ h.inner p ]

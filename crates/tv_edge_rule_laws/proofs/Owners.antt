@@ -1,16 +1,9 @@
 -- What is true of each pair of points and of the owners of one, and so of each compact edge.
-use Rattle.std.proofs.Common.{◌≡◌, ◌≢◌, ℕ, zero, suc, ◌+◌, ◌-◌, ◌<◌, ◌≤◌, List, [], ◌∷◌, ◌++◌, map, filter, Bool, true, false, cond, refl, arith}
+use Rattle.std.proofs.Common.{◌≡◌, ◌≢◌, ℕ, zero, suc, ◌+◌, ◌-◌, ◌<◌, ◌≤◌, List, [], ◌∷◌, map, filter, Bool, true, false, cond, refl, arith}
 use Rattle.std.specs.Prelude.{Option, Some, None, ⊤}
-use Rattle.std.specs.List.{flat_map, filter_map, cons_option, AllByRecursion}
+use Rattle.std.specs.List.{filter_map, cons_option, AllByRecursion}
+use Rattle.tv_lemmas.proofs.Members.{all-flat_map, all-any}
 use Rattle.tv_spec_plane.specs.Web.{numbers_from, pairs}
-
-each_append : {A : Type 0} (P : A → Type 0) (xs ys : List A) → AllByRecursion P xs → AllByRecursion P ys → AllByRecursion P (xs ++ ys)
-each_append P [] ys all more = more
-each_append P (x ∷ xs) ys all more = (all.0, each_append P xs ys all.1 more)
-
-each_flat_map : {A B : Type 0} (P : B → Type 0) (f : A → List B) → ((x : A) → AllByRecursion P (f x)) → (xs : List A) → AllByRecursion P (flat_map f xs)
-each_flat_map P f here [] = tt
-each_flat_map P f here (x ∷ xs) = each_append P (f x) (flat_map f xs) (here x) (each_flat_map P f here xs)
 
 abbrev AreApart : ℕ × ℕ → Type 0
 AreApart p = p.0 ≢ p.1
@@ -20,7 +13,9 @@ row_apart a k zero l = tt
 row_apart a k (suc n) l = ((λ e. omega arith), row_apart a (suc k) n (omega arith))
 
 pairs_apart : (n : ℕ) → AllByRecursion AreApart (pairs n)
-pairs_apart n = each_flat_map AreApart (λ a. map (λ b. (a, b)) (numbers_from (suc a) (n - suc a))) (λ a. row_apart a (suc a) (n - suc a) (omega arith)) (numbers_from 0 n)
+pairs_apart n =
+    all-flat_map (λ (a : ℕ). ⊤) AreApart (λ a. map (λ b. (a, b)) (numbers_from (suc a) (n - suc a))) (λ a none. row_apart a (suc a) (n - suc a) (omega arith)) (numbers_from 0 n)
+    (all-any (λ (a : ℕ). ⊤) (λ a. tt) (numbers_from 0 n))
 
 -- ---- numbers that pass a test rise
 abbrev pub Rising : (ℕ → Bool) → ℕ → ℕ → List ℕ → Type 0

@@ -11,7 +11,7 @@ use Rattle.tv_spec_hull.specs.Members.{Among}
 use Rattle.tv_spec_hull.specs.Edges.{sides, IsListed}
 use Rattle.tv_lattice.specs.Limits.{HasCoordinates}
 use Rattle.tv_triangulation.specs.Turned.{turned_of, turned, IsUnit}
-use Rattle.tv_tiling.proofs.Lists.{all-at}
+use Rattle.tv_lemmas.proofs.Members.{all-at}
 use Rattle.tv_tiling.proofs.Turns.{turn-back}
 use Rattle.tv_acceptance.specs.Triangulated.{IsTiled}
 use Rattle.tv_edge_laws.specs.Rule.{HasSides, HasRule}

@@ -11,7 +11,7 @@ use Rattle.tv_spec_hull.specs.Hull.{IsLess}
 use Rattle.tv_tiling.specs.Points.{IsSmall, AreSmall}
 use Rattle.tv_lemmas.proofs.Integers.{mul-sub, mul-swap, diff, diff_of, diff-same, diffs, diff-pos}
 use Rattle.tv_lemmas.proofs.Signs.{sign, mul-pos-pos, mul-positive, mul-pos-neg, mul-negative, factor-zero}
-use Rattle.tv_tiling.proofs.Lists.{all-everywhere}
+use Rattle.tv_lemmas.proofs.Members.{all-everywhere}
 use Rattle.tv_tiling.proofs.Turns.{side-sum, side-frame, side-spread, turn-flat}
 use Rattle.tv_tiling.proofs.Crossings.{IsWeighted}
 

@@ -1,22 +1,11 @@
--- Members of lists by their places.
+-- Members of joined lists by the places of the pieces, and the first place of a negative value.
 use Rattle.std.specs.Prelude.{◌≡◌, ◌⊎◌, ℕ, zero, suc, ◌<◌, ℤ, pos, ◌≤ℤ◌, ◌<ℤ◌, List, [], ◌∷◌, length, slice_index_or}
-use Rattle.std.specs.List.{AllByRecursion, flat_map}
+use Rattle.std.specs.List.{flat_map}
 use Rattle.std.proofs.Common.{arith, inl, inr}
 use Rattle.tv_spec_hull.specs.Members.{Among, Once}
 use Rattle.std.proofs.lemmas.Int.{ints}
 use Rattle.tv_lemmas.proofs.Signs.{sign}
-use Rattle.tv_spec_hull.proofs.Members.{among-append, append-among_left, append-among_right, once-append}
-
-pub all-at : {A : Type 0} (P : A → Type 0) (xs : List A) (d : A) → AllByRecursion P xs → (i : ℕ) → i < length xs → P (slice_index_or xs i d)
-all-at P [] d all i h = absurd (omega arith)
-all-at P (x ∷ xs) d all zero h = all.0
-all-at P (x ∷ xs) d all (suc i) h = all-at P xs d all.1 i (omega arith)
-
--- also past the end, where the default has the property
-pub all-everywhere : {A : Type 0} (P : A → Type 0) (xs : List A) (d : A) → P d → AllByRecursion P xs → (i : ℕ) → P (slice_index_or xs i d)
-all-everywhere P [] d default all i = default
-all-everywhere P (x ∷ xs) d default all zero = all.0
-all-everywhere P (x ∷ xs) d default all (suc i) = all-everywhere P xs d default all.1 i
+use Rattle.tv_spec_hull.proofs.Members.{among-append, append-among_left, append-among_right, once-append, append-once_apart, append-once_right}
 
 pub flat_map-among : {A B : Type 0} (f : A → List B) (d : A) (s : B) (xs : List A) → Among s (flat_map f xs) → (i : ℕ) × (i < length xs) × Among s (f (slice_index_or xs i d))
 flat_map-among f d s [] m = elim m [ ]
@@ -35,6 +24,14 @@ once-flat_map f d [] once one = tt
 once-flat_map f d (x ∷ xs) once one = once-append (f x) (flat_map f xs) (once 0 (omega arith))
     (once-flat_map f d xs (λ i h. once (suc i) (omega arith)) (λ s i j hi hj mi mj. let e : suc i ≡ suc j = one s (suc i) (suc j) (omega arith) (omega arith) mi mj in omega arith))
     (λ s here m. let place = flat_map-among f d s xs m in let e : 0 ≡ suc place.0 = one s 0 (suc place.0) (omega arith) (omega (arith, place.1)) here place.2 in omega arith)
+
+-- where no member stands twice, two pieces share none
+pub flat_map-once_apart : {A B : Type 0} (f : A → List B) (d : A) (s : B) (xs : List A) → Once (flat_map f xs) → (i j : ℕ) → i < j → j < length xs → Among s (f (slice_index_or xs i d)) → Among s (f (slice_index_or xs j d)) → ⊥
+flat_map-once_apart f d s [] once i j l m p q = absurd (omega arith)
+flat_map-once_apart f d s (x ∷ xs) once zero zero l m p q = absurd (omega arith)
+flat_map-once_apart f d s (x ∷ xs) once zero (suc j) l m p q = append-once_apart s (f x) (flat_map f xs) once p (among-flat_map f d s xs j (omega arith) q)
+flat_map-once_apart f d s (x ∷ xs) once (suc i) zero l m p q = absurd (omega arith)
+flat_map-once_apart f d s (x ∷ xs) once (suc i) (suc j) l m p q = flat_map-once_apart f d s xs (append-once_right (f x) (flat_map f xs) once) i j (omega arith) (omega arith) p q
 
 -- all values are at least 0, or some is not
 none_before : {A : Type 0} (f : A → ℤ) (d : A) (x : A) (xs : List A) → pos 0 ≤ℤ f x → ((k : ℕ) → k < length xs → pos 0 ≤ℤ f (slice_index_or xs k d)) → (k : ℕ) → k < length (x ∷ xs) → pos 0 ≤ℤ f (slice_index_or (x ∷ xs) k d)

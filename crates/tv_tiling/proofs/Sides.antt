@@ -8,7 +8,8 @@ use Rattle.tv_spec_plane.specs.Tiling.{Rational, side, triangle_at, IsHullPair, 
 use Rattle.tv_spec_hull.specs.Members.{Among, Once}
 use Rattle.tv_spec_hull.specs.Edges.{sides, edges, back, IsTurned, AreTurned}
 use Rattle.tv_tiling.specs.Points.{IsSpread}
-use Rattle.tv_tiling.proofs.Lists.{all-at, flat_map-among}
+use Rattle.tv_lemmas.proofs.Members.{all-at}
+use Rattle.tv_tiling.proofs.Lists.{flat_map-among}
 use Rattle.tv_spec_hull.proofs.Turns.{turn-rotate}
 use Rattle.tv_tiling.proofs.Turns.{turn-apart, turn-back}
 

@@ -49,10 +49,7 @@ among-list_any s (x ∷ xs) (inr among) = or_right (same_segment s x) _ (among-l
 
 -- the edges of one triangle more
 pub edges-more : (ts : List Triple) (i : ℕ) (d : Triple) → i < length ts → edges (take (i + 1) ts) ≡ edges (take i ts) ++ sides (get_or ts i d)
-edges-more ts i d h = ap edges (take_more ts i d h) ∙ (flat_map-append sides (take i ts) (get_or ts i d ∷ []) ∙ ap (λ s. edges (take i ts) ++ s) (last (sides (get_or ts i d))))
-  where
-    last : (xs : List Segment) → xs ++ [] ≡ xs
-    last xs = append-nil xs
+edges-more ts i d h = ap edges (take_more ts i d h) ∙ (flat_map-append sides (take i ts) (get_or ts i d ∷ []) ∙ ap (λ s. edges (take i ts) ++ s) (append-nil (sides (get_or ts i d))))
 
 -- s comes before r or is r, by its first, then its second point
 abbrev pub IsBefore : Segment → Segment → Type 0

@@ -1,5 +1,5 @@
 -- What passes the checks tiles the hull of the points, and what tiles it passes them.
-use Rattle.std.specs.Prelude.{◌≡◌, ◌≢◌, ℕ, zero, suc, ◌<◌, ◌≤◌, ◌⊎◌, ◌↔◌, ℤ, pos, Bool, true, false, cond, int_lt, List, [], ◌∷◌, ◌++◌, length}
+use Rattle.std.specs.Prelude.{◌≡◌, ◌≢◌, ℕ, zero, suc, ◌<◌, ◌≤◌, ◌⊎◌, ◌↔◌, ℤ, pos, Bool, true, false, cond, int_lt, List, [], ◌∷◌, length}
 use Rattle.std.specs.List.{AllByRecursion}
 use Rattle.std.proofs.Common.{subst, sym, refl, arith, inl, inr}
 use Rattle.std.proofs.lemmas.Int.{ints}
@@ -12,12 +12,13 @@ use Rattle.tv_lattice.specs.declared.fault.InputError.TheVariants.{Fault, Memory
 use Rattle.tv_spec_plane.specs.declared.records.Triple.{Triple}
 use Rattle.tv_spec_plane.specs.Plane.{Point, at, turn, Segment, IsHullSegment}
 use Rattle.tv_spec_plane.specs.Tiling.{Tiles, triangle_at}
-use Rattle.tv_spec_hull.specs.Members.{Among, Once}
 use Rattle.tv_spec_hull.specs.Hull.{IsHull}
-use Rattle.tv_spec_hull.specs.Edges.{sides, edges, IsListed, IsMatched}
+use Rattle.tv_spec_hull.specs.Edges.{sides, IsListed, IsMatched}
+use Rattle.tv_lemmas.proofs.Members.{all-at}
 use Rattle.tv_lemmas.proofs.Signs.{sign}
 use Rattle.tv_tiling.specs.Points.{AreSmall, IsSpread as IsSpreadOut}
 use Rattle.tv_tiling.specs.Laws.{IsExchange}
+use Rattle.tv_tiling.proofs.Lists.{flat_map-once_apart}
 use Rattle.tv_tiling.proofs.Exchanges.{exchanged_triangles_tile}
 use Rattle.tv_tiling.proofs.Matched.{matched_triangles_tile}
 use Rattle.tv_tiling_converse.proofs.Tiled.{tiling_triangles_match}
@@ -85,48 +86,16 @@ triangulated-tiles m small mesh = matched_triangles_tile m.points m.triangles me
 pub accepted-tiles : (ps : List Point) (ts : List Triple) (m : Mesh) → AllByRecursion HasCoordinates ps → IsAccepted ps ts m → Tiles ps ts
 accepted-tiles ps ts m small accepted = (tiles-turned ps ts).1 (triangulated-tiles (record { points = ps; triangles = turned ps ts }) small (subst IsTriangulated accepted.whole accepted.triangulated))
 
--- ---- edges that stand once
-once-back : {A : Type 0} (xs ys : List A) → Once (xs ++ ys) → Once ys
-once-back [] ys once = once
-once-back (x ∷ xs) ys once = once-back xs ys once.1
-
-among-right : {A : Type 0} (x : A) (xs ys : List A) → Among x ys → Among x (xs ++ ys)
-among-right x [] ys among = among
-among-right x (z ∷ xs) ys among = inr (among-right x xs ys among)
-
-once-apart : {A : Type 0} (x : A) (xs ys : List A) → Once (xs ++ ys) → Among x xs → Among x ys → ⊥
-once-apart x [] ys once none second = none
-once-apart x (z ∷ xs) ys once (inl same) second = once.0 (subst (λ y. Among y (xs ++ ys)) same (among-right x xs ys second))
-once-apart x (z ∷ xs) ys once (inr first) second = once-apart x xs ys once.1 first second
-
-among-left : {A : Type 0} (x : A) (xs ys : List A) → Among x xs → Among x (xs ++ ys)
-among-left x [] ys none = absurd none
-among-left x (z ∷ xs) ys (inl same) = inl same
-among-left x (z ∷ xs) ys (inr among) = inr (among-left x xs ys among)
-
-side-edge : (s : Segment) (ts : List Triple) (i : ℕ) → i < length ts → Among s (sides (triangle_at ts i)) → Among s (edges ts)
-side-edge s [] i h among = absurd (omega arith)
-side-edge s (t ∷ ts) zero h among = among-left s (sides t) (edges ts) among
-side-edge s (t ∷ ts) (suc i) h among = among-right s (sides t) (edges ts) (side-edge s ts i (omega arith) among)
-
-once-shared : (s : Segment) (ts : List Triple) (t u : ℕ) → Once (edges ts) → t < u → u < length ts → Among s (sides (triangle_at ts t)) → Among s (sides (triangle_at ts u)) → ⊥
-once-shared s [] t u once h k first second = omega arith
-once-shared s (x ∷ ts) zero zero once h k first second = omega arith
-once-shared s (x ∷ ts) zero (suc u) once h k first second = once-apart s (sides x) (edges ts) once first (side-edge s ts u (omega arith) second)
-once-shared s (x ∷ ts) (suc t) zero once h k first second = omega arith
-once-shared s (x ∷ ts) (suc t) (suc u) once h k first second = once-shared s ts t u (once-back (sides x) (edges ts) once) (omega arith) (omega arith) first second
+-- where a place is past the end of the list
+abbrev pub no_triple : Triple
+no_triple = record { a = 0; b = 0; c = 0 }
 
 -- ---- where they tile, no check of edges fails
 matched-misfit : (ps : List Point) (hull : List Segment) (ts : List Triple) (f : FileFault) → IsHull ps hull → IsMatched hull ts → IsMisfit (IsHullSegment ps) ts f → ⊥
-matched-misfit ps hull ts (Twice t u) h matched misfit = let twice = misfit.second.holds in once-shared twice.edge ts t u matched.once twice.ordered twice.listed twice.shared.first twice.shared.second
+matched-misfit ps hull ts (Twice t u) h matched misfit = let twice = misfit.second.holds in flat_map-once_apart sides no_triple twice.edge ts matched.once t u twice.ordered twice.listed twice.shared.first twice.shared.second
 matched-misfit ps hull ts (Unmatched a b) h matched misfit = let lone = misfit.1.second.holds in elim (matched.matched (a, b) lone.edge) [ inl back ↦ lone.lone back | inr outer ↦ lone.inner (h.each a b outer) ]
 matched-misfit ps hull ts (Bare a b) h matched misfit = let bare = misfit.2.second.holds in bare.bare (matched.covered (a, b) (h.whole a b bare.outer))
 matched-misfit ps hull ts _ h matched misfit = misfit
-
-all-at : (P : Triple → Type 0) (ts : List Triple) (i : ℕ) → AllByRecursion P ts → i < length ts → P (triangle_at ts i)
-all-at P [] i all h = absurd (omega arith)
-all-at P (t ∷ ts) zero all h = all.0
-all-at P (t ∷ ts) (suc i) all h = all-at P ts i all.1 (omega arith)
 
 distinct-repeat : (ps : List Point) (i j : ℕ) → AreDistinct ps → IsRepeat ps i j → ⊥
 distinct-repeat ps i j distinct repeat = let same : i ≡ j = distinct i j (omega (arith, repeat.ordered, repeat.listed)) repeat.listed repeat.equal in omega (arith, repeat.ordered)
@@ -137,9 +106,9 @@ module _ (ps : List Point) (ts : List Triple) (small : AllByRecursion HasCoordin
 
   tiled-fault : (hull : List Segment) → IsHull ps hull → (f : FileFault) → IsFirstFault ps ts f → ⊥
   tiled-fault hull h (Repeated i j) fault = distinct-repeat ps i j spread.0 fault.second.holds
-  tiled-fault hull h (Index t) fault = fault.1.2 (all-at (IsListed ps) ts t listed fault.1.0)
+  tiled-fault hull h (Index t) fault = fault.1.2 (all-at (IsListed ps) ts no_triple listed t fault.1.0)
   tiled-fault hull h Flat fault = spread.1 fault.2
-  tiled-fault hull h (Area t doubled) fault = fault.2.2 (all-at (IsUnit ps) ts t unit fault.2.0)
+  tiled-fault hull h (Area t doubled) fault = fault.2.2 (all-at (IsUnit ps) ts no_triple unit t fault.2.0)
   tiled-fault hull h f fault = matched-misfit ps hull (turned ps ts) f h (tiled-matched hull h) fault.1
 
   pub tiled-answer : (hull : List Segment) → IsHull ps hull → (e : InputError) → IsAnswer ps ts e → e ≡ Memory
@@ -156,7 +125,7 @@ early-answer ps ts Memory fault = tt
 
 pub early-memory : (ps : List Point) (ts : List Triple) → IsSpread ps → AreListed ps ts → (e : InputError) → IsEarlyAnswer ps ts e → e ≡ Memory
 early-memory ps ts spread listed (Fault (Repeated i j)) fault = absurd (distinct-repeat ps i j spread.0 fault.second.holds)
-early-memory ps ts spread listed (Fault (Index t)) fault = absurd (fault.1.2 (all-at (IsListed ps) ts t listed fault.1.0))
+early-memory ps ts spread listed (Fault (Index t)) fault = absurd (fault.1.2 (all-at (IsListed ps) ts no_triple listed t fault.1.0))
 early-memory ps ts spread listed (Fault Flat) fault = absurd (spread.1 fault.2)
 early-memory ps ts spread listed (Fault f) fault = absurd fault
 early-memory ps ts spread listed Memory fault = refl
