@@ -1,7 +1,7 @@
 -- How the owners of two points are found, one triangle after the other.
 --
 -- left ts a b t == the owners among the triangles from t on
-use Rattle.std.specs.Prelude.{◌≡◌, ℕ, suc, ◌+◌, ◌-◌, ◌<◌, ◌≤◌, Bool, true, false, cond, List, [], ◌∷◌, filter, length}
+use Rattle.std.specs.Prelude.{◌≡◌, ℕ, zero, suc, ◌+◌, ◌-◌, ◌<◌, ◌≤◌, Bool, true, false, cond, List, [], ◌∷◌, filter, length}
 use Rattle.std.proofs.Common.{refl, sym, ap, ◌∙◌, arith, add-one}
 use Rattle.tv_spec_plane.specs.declared.records.Triple.{Triple}
 use Rattle.tv_spec_plane.specs.Web.{numbers_from}
@@ -18,6 +18,10 @@ and_all-nothing [] = refl
 and_all-nothing (t ∷ []) = refl
 and_all-nothing (t ∷ u ∷ []) = refl
 and_all-nothing (t ∷ u ∷ v ∷ ts) = and_all-more ts
+
+pub length-numbers_from : (k n : ℕ) → length (numbers_from k n) ≡ n
+length-numbers_from k zero = refl
+length-numbers_from k (suc n) = ap suc (length-numbers_from (suc k) n)
 
 pub numbers_from-step : (k n : ℕ) → k < n → numbers_from k (n - k) ≡ k ∷ numbers_from (suc k) (n - suc k)
 numbers_from-step k n h =

@@ -1,13 +1,15 @@
 -- The lists that the code gathers are the lists of edges and corners of the web.
-use Rattle.std.specs.Prelude.{◌≡◌, ℕ, zero, suc, ◌+◌, ◌-◌, ◌*◌, ◌≤◌, List, [], ◌∷◌, ◌++◌, map, length, Option, Some, None}
+use Rattle.std.specs.Prelude.{◌≡◌, ℕ, suc, ◌+◌, ◌-◌, ◌≤◌, List, [], ◌∷◌, ◌++◌, map, length, Option, Some, None}
 use Rattle.std.specs.List.{flat_map, filter_map}
-use Rattle.std.proofs.Common.{refl, sym, ap, ◌∙◌, arith, add-one, length-append}
+use Rattle.std.proofs.Common.{refl, sym, ap, ◌∙◌, arith, add-one}
 use Rattle.std.proofs.lemmas.List.Elements.{filter_map-append}
+use Rattle.tv_lemmas.proofs.Lists.{map-same, flat_map-same, length-flat_map-le}
 use Rattle.tv_spec_plane.specs.declared.records.Triple.{Triple}
 use Rattle.tv_spec_plane.specs.declared.records.CompactEdge.{CompactEdge}
 use Rattle.tv_spec_plane.specs.declared.records.OuterEdge.{OuterEdge}
 use Rattle.tv_spec_plane.specs.Plane.{Point}
 use Rattle.tv_spec_plane.specs.Web.{Web, numbers_from, pairs, compact, outer, corners, corner_of, edge_ref, compact_by, outer_by, owners}
+use Rattle.tv_web.proofs.Finding.{length-numbers_from}
 use Rattle.tv_web.specs.Found.{owners_in}
 use Rattle.tv_web.specs.Edges.{one, gathered, compact_pair, outer_pair, compact_row, outer_row}
 use Rattle.tv_web.specs.Corners.{corner_in, edge_ref_in}
@@ -24,10 +26,6 @@ one-is h y ys (Some z) e = rw e refl
 filter_map-map : {A B C : Type 0} (h : B → Option C) (g : A → B) (xs : List A) → filter_map h (map g xs) ≡ flat_map (λ x. one (h (g x))) xs
 filter_map-map h g [] = refl
 filter_map-map h g (x ∷ xs) = one-is h (g x) (map g xs) (h (g x)) refl ∙ ap (λ ys. one (h (g x)) ++ ys) (filter_map-map h g xs)
-
-flat_map-same : {A B : Type 0} (f g : A → List B) → ((x : A) → f x ≡ g x) → (xs : List A) → flat_map f xs ≡ flat_map g xs
-flat_map-same f g same [] = refl
-flat_map-same f g same (x ∷ xs) = ap (λ ys. ys ++ flat_map f xs) (same x) ∙ ap (λ ys. g x ++ ys) (flat_map-same f g same xs)
 
 -- over all pairs below n
 filter_map-pairs : {C : Type 0} (h : ℕ × ℕ → Option C) (row : ℕ → List C) (n : ℕ) → ((a : ℕ) → flat_map (λ b. one (h (a, b))) (numbers_from (suc a) (n - suc a)) ≡ row a) → filter_map h (pairs n) ≡ flat_map row (numbers_from 0 n)
@@ -60,38 +58,26 @@ corner_in-is : (w : Web) (t : Triple) → corner_in (compact w) (outer w) t ≡ 
 unfolding edge_ref edge_ref_in
 corner_in-is w t = refl
 
-map-same : {A B : Type 0} (f g : A → B) → ((x : A) → f x ≡ g x) → (xs : List A) → map f xs ≡ map g xs
-map-same f g same [] = refl
-map-same f g same (x ∷ xs) = ap (λ y. y ∷ map f xs) (same x) ∙ ap (λ ys. g x ∷ ys) (map-same f g same xs)
-
 pub corners-is : (w : Web) (cs : List CompactEdge) (os : List OuterEdge) → cs ≡ compact w → os ≡ outer w → map (corner_in cs os) w.triangles ≡ corners w
 corners-is w cs os e f = ap (λ xs. map (corner_in xs os) w.triangles) e ∙ (ap (λ ys. map (corner_in (compact w) ys) w.triangles) f ∙ map-same (corner_in (compact w) (outer w)) (corner_of w) (corner_in-is w) w.triangles)
 
 -- how many there can be
-length-numbers_from : (k n : ℕ) → length (numbers_from k n) ≡ n
-length-numbers_from k zero = refl
-length-numbers_from k (suc n) = ap suc (length-numbers_from (suc k) n)
-
-length-flat_map : {A B : Type 0} (g : A → List B) (m : ℕ) → ((x : A) → length (g x) ≤ m) → (xs : List A) → length (flat_map g xs) ≤ length xs * m
-length-flat_map g m few [] = omega arith
-length-flat_map g m few (x ∷ xs) = omega (arith, length-append (g x) (flat_map g xs), few x, length-flat_map g m few xs)
-
 length-one : {A : Type 0} (o : Option A) → length (one o) ≤ 1
 length-one None = omega arith
 length-one (Some x) = omega arith
 
 compact_row-few : (ts : List Triple) (n : ℕ) → n ≤ 64 → (a : ℕ) → length (compact_row ts n a) ≤ 64
 unfolding compact_row compact_pair gathered
-compact_row-few ts n h a = omega (arith, length-flat_map (compact_pair ts a) 1 (λ b. length-one _) (numbers_from (a + 1) (n - (a + 1))), length-numbers_from (a + 1) (n - (a + 1)))
+compact_row-few ts n h a = omega (arith, length-flat_map-le (compact_pair ts a) 1 (λ b. length-one _) (numbers_from (a + 1) (n - (a + 1))), length-numbers_from (a + 1) (n - (a + 1)))
 
 outer_row-few : (ts : List Triple) (n : ℕ) → n ≤ 64 → (a : ℕ) → length (outer_row ts n a) ≤ 64
 unfolding outer_row outer_pair gathered
-outer_row-few ts n h a = omega (arith, length-flat_map (outer_pair ts a) 1 (λ b. length-one _) (numbers_from (a + 1) (n - (a + 1))), length-numbers_from (a + 1) (n - (a + 1)))
+outer_row-few ts n h a = omega (arith, length-flat_map-le (outer_pair ts a) 1 (λ b. length-one _) (numbers_from (a + 1) (n - (a + 1))), length-numbers_from (a + 1) (n - (a + 1)))
 
 pub compact-few : (ts : List Triple) (n : ℕ) → n ≤ 64 → length (gathered (compact_row ts n) 0 n) ≤ 4096
 unfolding gathered
-compact-few ts n h = omega (arith, length-flat_map (compact_row ts n) 64 (compact_row-few ts n h) (numbers_from 0 (n - 0)), length-numbers_from 0 (n - 0))
+compact-few ts n h = omega (arith, length-flat_map-le (compact_row ts n) 64 (compact_row-few ts n h) (numbers_from 0 (n - 0)), length-numbers_from 0 (n - 0))
 
 pub outer-few : (ts : List Triple) (n : ℕ) → n ≤ 64 → length (gathered (outer_row ts n) 0 n) ≤ 4096
 unfolding gathered
-outer-few ts n h = omega (arith, length-flat_map (outer_row ts n) 64 (outer_row-few ts n h) (numbers_from 0 (n - 0)), length-numbers_from 0 (n - 0))
+outer-few ts n h = omega (arith, length-flat_map-le (outer_row ts n) 64 (outer_row-few ts n h) (numbers_from 0 (n - 0)), length-numbers_from 0 (n - 0))
