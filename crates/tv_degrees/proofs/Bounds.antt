@@ -11,7 +11,7 @@ use Rattle.tv_spec_plane.specs.Web.{Web, numbers_from, compact, edge_ratio, norm
 use Rattle.tv_lemmas.proofs.Integers.{mul-sub, sub-mul}
 use Rattle.tv_lemmas.proofs.Signs.{sign}
 use Rattle.tv_lattice.specs.Limits.{IsCoordinate, HasCoordinates}
-use Rattle.tv_lattice.proofs.Each.{each_at}
+use Rattle.tv_lemmas.proofs.Members.{all-at}
 use Rattle.tv_edge_laws.specs.Rule.{HasSides, ratio, HasRule, HasEdgeRule}
 use Rattle.tv_edge_laws.proofs.Rules.{ratio-rule}
 use Rattle.tv_degrees.specs.Edges.{no_edge, edge_at, IsNormalDegree}
@@ -69,7 +69,7 @@ no_point = record { x = pos 0; y = pos 0 }
 
 edge_ratio-le : (w : Web) (e : CompactEdge) → AllByRecursion HasCoordinates w.points → HasRule w e → unsigned_abs (edge_ratio w e) ≤ 400
 unfolding edge_ratio no_point
-edge_ratio-le w e small rule = ratio-le (at w.points e.a) (at w.points e.b) (at w.points e.c) (at w.points e.d) (each_at HasCoordinates w.points e.a no_point rule.a small) (each_at HasCoordinates w.points e.c no_point rule.c small) (each_at HasCoordinates w.points e.d no_point rule.d small) rule.sides
+edge_ratio-le w e small rule = ratio-le (at w.points e.a) (at w.points e.b) (at w.points e.c) (at w.points e.d) (all-at HasCoordinates w.points no_point small e.a rule.a) (all-at HasCoordinates w.points no_point small e.c rule.c) (all-at HasCoordinates w.points no_point small e.d rule.d) rule.sides
 
 pub normal_a-small : (w : Web) (e : CompactEdge) → AllByRecursion HasCoordinates w.points → HasRule w e → IsNormalDegree (normal_a w e)
 normal_a-small w e small rule = omega (arith, ints, edge_ratio-le w e small rule)
@@ -95,4 +95,4 @@ class_entries-small w e small rule =
 
 -- by the number of the edge
 pub rule_at : (w : Web) (e : ℕ) → e < length (compact w) → HasEdgeRule w → HasRule w (edge_at w e)
-rule_at w e h rule = each_at (HasRule w) (compact w) e no_edge h rule
+rule_at w e h rule = all-at (HasRule w) (compact w) no_edge rule e h

@@ -3,13 +3,14 @@
 -- entries_from e m n k count == the entries from point k on
 use Rattle.std.specs.Prelude.{◌≡◌, ℕ, zero, suc, ◌+◌, ◌-◌, ◌<◌, ◌≤◌, ℤ, pos, ◌+ℤ◌, ◌-ℤ◌, ◌*ℤ◌, neg_ℤ, List, [], ◌∷◌, ◌++◌, map, length}
 use Rattle.std.specs.List.{AllByRecursion}
-use Rattle.std.proofs.Common.{refl, sym, ap, subst, ◌∙◌, get_or, append_assoc, append-nil, length-append, arith, add-one}
+use Rattle.std.proofs.Common.{sym, ap, subst, ◌∙◌, get_or, append_assoc, append-nil, length-append, arith, add-one}
+use Rattle.std.proofs.lemmas.List.{length-map}
 use Rattle.tv_spec_plane.specs.declared.records.CompactEdge.{CompactEdge}
 use Rattle.tv_spec_plane.specs.Web.{Web, numbers_from, below, edge_ratio, edge_class}
 use Rattle.tv_lattice.specs.Classes.{IsEntry, IsEntries}
 use Rattle.tv_lattice.proofs.Each.{each_push}
 use Rattle.tv_lattice.proofs.Sums.{degree_from, degree_from-next}
-use Rattle.tv_web.proofs.Finding.{numbers_from-step, numbers_from-end}
+use Rattle.tv_web.proofs.Finding.{length-numbers_from, numbers_from-step, numbers_from-end}
 use Rattle.tv_degrees.specs.Edges.{entry_by}
 
 unfoldable pub entries_from : CompactEdge → ℤ → ℤ → ℕ → ℕ → List ℤ
@@ -53,12 +54,8 @@ numbers-get f k (suc n) (suc i) h = numbers-get f (suc k) n i (omega arith) ∙ 
 pub entries-get : (f : ℕ → ℤ) (n i : ℕ) → i < n → get_or (map f (below n)) i (pos 0) ≡ f i
 entries-get f n i h = numbers-get f 0 n i h ∙ ap f (let e : 0 + i ≡ i = omega arith in e)
 
-numbers-length : (f : ℕ → ℤ) (k n : ℕ) → length (map f (numbers_from k n)) ≡ n
-numbers-length f k zero = refl
-numbers-length f k (suc n) = ap suc (numbers-length f (suc k) n)
-
 pub entries-length : (f : ℕ → ℤ) (n : ℕ) → length (map f (below n)) ≡ n
-entries-length f n = numbers-length f 0 n
+entries-length f n = length-map (below n) f ∙ length-numbers_from 0 n
 
 -- the class and the degree of an edge by its ratio
 pub edge_class-by : (w : Web) (e : CompactEdge) (m n : ℤ) (count : ℕ) → m ≡ edge_ratio w e -ℤ pos 2 → n ≡ neg_ℤ (edge_ratio w e) → count ≡ length w.points → map (entry_by e m n) (below count) ≡ edge_class w e

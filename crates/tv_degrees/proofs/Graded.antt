@@ -1,20 +1,16 @@
 -- The grades of edges, one edge after the other.
-use Rattle.std.specs.Prelude.{◌≡◌, ℕ, zero, suc, ◌+◌, ◌<◌, ◌≤◌, ℤ, pos, ◌<ℤ◌, List, [], ◌∷◌, ◌++◌, map, length, take}
+use Rattle.std.specs.Prelude.{◌≡◌, ℕ, ◌+◌, ◌<◌, ◌≤◌, ℤ, pos, ◌<ℤ◌, List, [], ◌∷◌, ◌++◌, map, length, take}
 use Rattle.std.specs.List.{AllByRecursion}
-use Rattle.std.proofs.Common.{refl, sym, ap, subst, ◌∙◌, get_or, arith}
-use Rattle.std.proofs.lemmas.List.{take_more}
-use Rattle.std.proofs.lemmas.Grind.{common_steps}
+use Rattle.std.proofs.Common.{sym, ap, subst, ◌∙◌, get_or}
+use Rattle.std.proofs.lemmas.List.{take_more, take_all, map-append, get_or-map}
+use Rattle.tv_lemmas.proofs.Members.{all-at}
 use Rattle.tv_spec_plane.specs.declared.records.CompactEdge.{CompactEdge}
 use Rattle.tv_spec_plane.specs.Web.{Web, compact, edge_class, edge_degree}
-use Rattle.tv_lattice.proofs.Each.{each_take_more, each_at}
+use Rattle.tv_lattice.proofs.Each.{each_take_more}
 use Rattle.tv_degrees.specs.declared.fault.DegreeFault.{DegreeFault}
 use Rattle.tv_degrees.specs.declared.fault.DegreeFault.TheVariants.{Degree, Memory}
 use Rattle.tv_degrees.specs.Edges.{no_edge, edge_at}
 use Rattle.tv_degrees.specs.Grades.{HasDegree, IsLow, IsDegreeFault, AreGrades, IsPushed}
-
-map-push : {A B : Type 0} (f : A → B) (xs : List A) (x : A) → map f (xs ++ x ∷ []) ≡ map f xs ++ f x ∷ []
-map-push f [] x = refl
-map-push f (y ∷ ys) x = ap (λ zs. f y ∷ zs) (map-push f ys x)
 
 pub grades_first : (w : Web) (es : List CompactEdge) (vs : List (List ℤ)) (zs : List ℤ) → vs ≡ [] → zs ≡ [] → AreGrades w (take 0 es) vs zs
 grades_first w es vs zs e f = record { classes = e; degrees = f; graded = tt }
@@ -23,16 +19,13 @@ pub grades_next : (w : Web) (es : List CompactEdge) (k : ℕ) (vs us : List (Lis
 grades_next w es k vs us zs ys h so_far pushed =
     let more = take_more es k no_edge h in
     record {
-      classes = pushed.classes ∙ (ap (λ (xs : List (List ℤ)). xs ++ edge_class w (get_or es k no_edge) ∷ []) so_far.classes ∙ (sym (map-push (edge_class w) (take k es) (get_or es k no_edge)) ∙ ap (map (edge_class w)) (sym more)));
-      degrees = pushed.degrees ∙ (ap (λ (xs : List ℤ). xs ++ edge_degree w (get_or es k no_edge) ∷ []) so_far.degrees ∙ (sym (map-push (edge_degree w) (take k es) (get_or es k no_edge)) ∙ ap (map (edge_degree w)) (sym more)));
+      classes = pushed.classes ∙ (ap (λ (xs : List (List ℤ)). xs ++ edge_class w (get_or es k no_edge) ∷ []) so_far.classes ∙ (sym (map-append (edge_class w) (take k es) (get_or es k no_edge ∷ [])) ∙ ap (map (edge_class w)) (sym more)));
+      degrees = pushed.degrees ∙ (ap (λ (xs : List ℤ). xs ++ edge_degree w (get_or es k no_edge) ∷ []) so_far.degrees ∙ (sym (map-append (edge_degree w) (take k es) (get_or es k no_edge ∷ [])) ∙ ap (map (edge_degree w)) (sym more)));
       graded = each_take_more (HasDegree w) es k no_edge h so_far.graded pushed.positive;
     }
 
-take-whole : {A : Type 0} (xs : List A) (k : ℕ) → length xs ≤ k → take k xs ≡ xs
-take-whole xs k h = grind (arith, common_steps)
-
 pub grades_last : (w : Web) (es : List CompactEdge) (k : ℕ) (vs : List (List ℤ)) (zs : List ℤ) → length es ≤ k → es ≡ compact w → AreGrades w (take k es) vs zs → AreGrades w (compact w) vs zs
-grades_last w es k vs zs h same so_far = subst (λ (xs : List CompactEdge). AreGrades w xs vs zs) (take-whole es k h ∙ same) so_far
+grades_last w es k vs zs h same so_far = subst (λ (xs : List CompactEdge). AreGrades w xs vs zs) (take_all k es h ∙ same) so_far
 
 low_fault : (w : Web) (k : ℕ) (f : DegreeFault) → k < length (compact w) → AllByRecursion (HasDegree w) (take k (compact w)) → IsLow w (edge_at w k) f → IsDegreeFault w f
 low_fault w k (Degree a b z) listed before low = (k, record { listed = listed; before = before; first = low.0; second = low.1; degree = low.2; low = low.3 })
@@ -42,13 +35,8 @@ pub grades_fault : (w : Web) (es : List CompactEdge) (k : ℕ) (vs : List (List 
 grades_fault w es k vs zs f h same so_far low = low_fault w k f (subst (λ (xs : List CompactEdge). k < length xs) same h) (subst (λ (xs : List CompactEdge). AllByRecursion (HasDegree w) (take k xs)) same so_far.graded) (subst (λ (xs : List CompactEdge). IsLow w (get_or xs k no_edge) f) same low)
 
 -- the grades of one edge
-map-get : {A B : Type 0} (f : A → B) (xs : List A) (k : ℕ) (d : A) (e : B) → k < length xs → get_or (map f xs) k e ≡ f (get_or xs k d)
-map-get f [] k d e h = absurd (omega arith)
-map-get f (x ∷ xs) zero d e h = refl
-map-get f (x ∷ xs) (suc k) d e h = map-get f xs k d e (omega arith)
-
 pub degree-at : (w : Web) (vs : List (List ℤ)) (zs : List ℤ) (k : ℕ) (d : ℤ) → k < length (compact w) → AreGrades w (compact w) vs zs → get_or zs k d ≡ edge_degree w (edge_at w k)
-degree-at w vs zs k d h grades = ap (λ (xs : List ℤ). get_or xs k d) grades.degrees ∙ map-get (edge_degree w) (compact w) k no_edge d h
+degree-at w vs zs k d h grades = ap (λ (xs : List ℤ). get_or xs k d) grades.degrees ∙ get_or-map (edge_degree w) (compact w) k no_edge d h
 
 pub degree-positive : (w : Web) (vs : List (List ℤ)) (zs : List ℤ) (k : ℕ) (z d : ℤ) → k < length (compact w) → AreGrades w (compact w) vs zs → z ≡ get_or zs k d → pos 0 <ℤ z
-degree-positive w vs zs k z d h grades e = subst (λ (y : ℤ). pos 0 <ℤ y) (sym (e ∙ degree-at w vs zs k d h grades)) (each_at (HasDegree w) (compact w) k no_edge h grades.graded)
+degree-positive w vs zs k z d h grades e = subst (λ (y : ℤ). pos 0 <ℤ y) (sym (e ∙ degree-at w vs zs k d h grades)) (all-at (HasDegree w) (compact w) no_edge grades.graded k h)

@@ -1,8 +1,9 @@
 -- The sign by two parities, and the sum over the even points, one point after the other.
 --
 -- even_from ps v k == the sum over the even points from place k on
-use Rattle.std.specs.Prelude.{◌≡◌, ℕ, zero, suc, ◌+◌, ◌<◌, ◌≤◌, ◌%◌, ◌⊎◌, Bool, cond, ℤ, pos, negsuc, ◌+ℤ◌, List, [], ◌∷◌, length, drop, nat_eq, unsigned_abs}
+use Rattle.std.specs.Prelude.{◌≡◌, ℕ, ◌+◌, ◌<◌, ◌≤◌, ◌%◌, ◌⊎◌, Bool, cond, ℤ, pos, negsuc, ◌+ℤ◌, List, length, drop, nat_eq, unsigned_abs}
 use Rattle.std.proofs.Common.{refl, sym, ap, ◌∙◌, inl, inr, get_or, drop-cons, arith, add-one}
+use Rattle.std.proofs.lemmas.List.{drop_all}
 use Rattle.std.proofs.lemmas.Int.{ints}
 use Rattle.tv_spec_plane.specs.Plane.{Point, at}
 use Rattle.tv_spec_plane.specs.Web.{even_sum, is_even_point, class_sign, parity}
@@ -39,12 +40,6 @@ even_from-next ps v k total more whole h l e was =
     let front = rw (drop-cons ps k (record { x = pos 0; y = pos 0 }) h, drop-cons v k (pos 0) l) at was in
     rw add-one (omega (arith, ints))
 
-drop-all : {A : Type 0} (u : List A) (i : ℕ) → length u ≤ i → drop i u ≡ []
-drop-all [] zero l = refl
-drop-all [] (suc i) l = refl
-drop-all (x ∷ u) zero l = absurd (omega arith)
-drop-all (x ∷ u) (suc i) l = drop-all u i (omega arith)
-
 pub even_from-end : (ps : List Point) (v : List ℤ) (k : ℕ) → length ps ≤ k → even_from ps v k ≡ pos 0
 unfolding even_from
-even_from-end ps v k h = ap (λ (us : List Point). even_sum us (drop k v)) (drop-all ps k h)
+even_from-end ps v k h = ap (λ (us : List Point). even_sum us (drop k v)) (drop_all k ps h)
