@@ -13,7 +13,7 @@ use Rattle.tv_spec_boxes.specs.Configurations.{boxes_left}
 use Rattle.tv_spec_boxes.specs.Numbers.{falls_on, low_of, least, lowest, as_natural, box_bound}
 use Rattle.tv_gluing.specs.Ways.{ways_at, start_of, assignment_sign, assignment_coefficient}
 use Rattle.tv_gluing.specs.Laws.{BoxesWithin, StartsAbove, NoneBelowStart}
-use Rattle.tv_gluing.proofs.Lists.{all-onto, all-contains}
+use Rattle.tv_lemmas.proofs.Members.{all-onto, all-contains}
 
 int_min-left : (x y : ℤ) → int_min x y ≤ℤ x
 int_min-left x y = grind (arith, ints)

@@ -14,7 +14,8 @@ use Rattle.tv_partition.proofs.Members.{diagrams-are-all}
 use Rattle.tv_spec_boxes.specs.Assignments.{Rows, Assignment, choices}
 use Rattle.tv_spec_boxes.proofs.Sums.{flat_map-none}
 use Rattle.tv_gluing.specs.Ways.{IsAtMost}
-use Rattle.tv_gluing.proofs.Lists.{all-flat_map, all-map, all-any, all-filter, all-found, flat_map-same, filter-flat_map, filter-map, filter-same, filter-none, flat_map-filter}
+use Rattle.tv_lemmas.proofs.Lists.{flat_map-same, flat_map-same_on, flat_map-filter, filter-map, filter-flat_map, filter-same_on, filter-none}
+use Rattle.tv_lemmas.proofs.Members.{all-flat_map, all-map, all-any, all-filter, all-found}
 
 abbrev pub degree_by : List ℕ → Assignment → ℕ
 degree_by [] a = 0
@@ -95,8 +96,8 @@ cut-past g gs d n one past = let more = times-more n g one in let no : nat_le (n
 filter-starting : (g : ℕ) (gs : List ℕ) (m d n : ℕ) → filter (within (g ∷ gs) m) (starting g gs d n) ≡ flat_map (λ rows. map (λ a. rows ∷ a) (filter (λ a. within (g ∷ gs) m (rows ∷ a)) (choices gs (d - (n * g))))) (diagrams n)
 filter-starting g gs m d n =
     filter-flat_map (within (g ∷ gs) m) (λ rows. map (λ a. rows ∷ a) (choices gs (d - (n * g)))) (diagrams n)
-    ∙ flat_map-same (λ (rows : Rows). Unit {0}) (λ rows. filter (within (g ∷ gs) m) (map (λ a. rows ∷ a) (choices gs (d - (n * g))))) (λ rows. map (λ a. rows ∷ a) (filter (λ a. within (g ∷ gs) m (rows ∷ a)) (choices gs (d - (n * g)))))
-    (λ rows none. filter-map (within (g ∷ gs) m) (λ a. rows ∷ a) (choices gs (d - (n * g)))) (diagrams n) (all-any (λ (rows : Rows). Unit {0}) (λ rows. tt) (diagrams n))
+    ∙ flat_map-same (λ rows. filter (within (g ∷ gs) m) (map (λ a. rows ∷ a) (choices gs (d - (n * g))))) (λ rows. map (λ a. rows ∷ a) (filter (λ a. within (g ∷ gs) m (rows ∷ a)) (choices gs (d - (n * g)))))
+    (λ rows. filter-map (within (g ∷ gs) m) (λ a. within (g ∷ gs) m (rows ∷ a)) (λ a. rows ∷ a) (λ a. refl) (choices gs (d - (n * g)))) (diagrams n)
 
 test-rest : (x y m c : ℕ) → x ≡ c → c ≤ m → nat_le (x + y) m ≡ nat_le y (m - c)
 test-rest x y m c e h = grind (arith, nat_tests)
@@ -110,17 +111,17 @@ Within gs = (m d : ℕ) → m ≤ d → choices gs m ≡ filter (within gs m) (c
 starting-within : (g : ℕ) (gs : List ℕ) (m d n : ℕ) → Within gs → m ≤ d → n * g ≤ m → filter (within (g ∷ gs) m) (starting g gs d n) ≡ starting g gs m n
 starting-within g gs m d n rest h fits =
     filter-starting g gs m d n
-    ∙ flat_map-same (HasSize n) (λ rows. map (λ a. rows ∷ a) (filter (λ a. within (g ∷ gs) m (rows ∷ a)) (choices gs (d - (n * g))))) (λ rows. map (λ a. rows ∷ a) (choices gs (m - (n * g))))
+    ∙ flat_map-same_on (HasSize n) (λ rows. map (λ a. rows ∷ a) (filter (λ a. within (g ∷ gs) m (rows ∷ a)) (choices gs (d - (n * g))))) (λ rows. map (λ a. rows ∷ a) (choices gs (m - (n * g))))
     (λ rows is. ap (map (λ a. rows ∷ a))
-    (filter-same (λ (a : Assignment). Unit {0}) (λ a. within (g ∷ gs) m (rows ∷ a)) (within gs (m - (n * g))) (λ a none. test-rest (size rows * g) (degree_by gs a) m (n * g) (ap (λ k. k * g) is.1) fits) (choices gs (d - (n * g))) (all-any (λ (a : Assignment). Unit {0}) (λ a. tt) (choices gs (d - (n * g))))
+    (filter-same_on (λ (a : Assignment). Unit {0}) (λ a. within (g ∷ gs) m (rows ∷ a)) (within gs (m - (n * g))) (λ a none. test-rest (size rows * g) (degree_by gs a) m (n * g) (ap (λ k. k * g) is.1) fits) (choices gs (d - (n * g))) (all-any (λ (a : Assignment). Unit {0}) (λ a. tt) (choices gs (d - (n * g))))
     ∙ sym (rest (m - (n * g)) (d - (n * g)) (omega arith))))
     (diagrams n) (diagrams_are n)
 
 starting-past : (g : ℕ) (gs : List ℕ) (m d n : ℕ) → m < n * g → filter (within (g ∷ gs) m) (starting g gs d n) ≡ []
 starting-past g gs m d n past =
     filter-starting g gs m d n
-    ∙ (flat_map-same (HasSize n) (λ rows. map (λ a. rows ∷ a) (filter (λ a. within (g ∷ gs) m (rows ∷ a)) (choices gs (d - (n * g))))) (λ rows. [])
-    (λ rows is. ap (map (λ a. rows ∷ a)) (filter-none (λ (a : Assignment). Unit {0}) (λ a. within (g ∷ gs) m (rows ∷ a)) (λ a none. test-past (size rows * g) (degree_by gs a) m (n * g) (ap (λ k. k * g) is.1) past) (choices gs (d - (n * g))) (all-any (λ (a : Assignment). Unit {0}) (λ a. tt) (choices gs (d - (n * g))))))
+    ∙ (flat_map-same_on (HasSize n) (λ rows. map (λ a. rows ∷ a) (filter (λ a. within (g ∷ gs) m (rows ∷ a)) (choices gs (d - (n * g))))) (λ rows. [])
+    (λ rows is. ap (map (λ a. rows ∷ a)) (filter-none (λ a. within (g ∷ gs) m (rows ∷ a)) (λ a. test-past (size rows * g) (degree_by gs a) m (n * g) (ap (λ k. k * g) is.1) past) (choices gs (d - (n * g)))))
     (diagrams n) (diagrams_are n)
     ∙ flat_map-none (diagrams n))
 
@@ -144,6 +145,6 @@ choices-within [] one m d h = choices-none m d
 choices-within (g ∷ gs) one m d h =
     choices-cut g gs m
     ∙ (sym (below-more (cut g gs m) 0 (suc m) (suc d) (omega arith) (λ n past. cut-past g gs m n one.0 (omega arith)))
-    ∙ (sym (flat_map-same (λ (n : ℕ). Unit {0}) (λ n. filter (within (g ∷ gs) m) (cut g gs d n)) (cut g gs m) (λ n none. cut-within g gs m d n (choices-within gs one.1) h) (below (suc d)) (all-any (λ (n : ℕ). Unit {0}) (λ n. tt) (below (suc d))))
+    ∙ (sym (flat_map-same (λ n. filter (within (g ∷ gs) m) (cut g gs d n)) (cut g gs m) (λ n. cut-within g gs m d n (choices-within gs one.1) h) (below (suc d)))
     ∙ (sym (filter-flat_map (within (g ∷ gs) m) (cut g gs d) (below (suc d)))
     ∙ ap (filter (within (g ∷ gs) m)) (sym (choices-cut g gs d)))))

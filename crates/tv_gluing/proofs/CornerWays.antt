@@ -8,7 +8,7 @@ use Rattle.tv_cells.specs.declared.legs.Legs.{Legs}
 use Rattle.tv_cells.specs.Extras.{count}
 use Rattle.tv_cube_laws.proofs.Larger.{no_extras}
 use Rattle.tv_gluing.specs.Ways.{split, spread, ways, corner_ways}
-use Rattle.tv_gluing.proofs.Lists.{all-onto}
+use Rattle.tv_lemmas.proofs.Members.{all-onto}
 use Rattle.tv_gluing.proofs.Spreads.{spread-none, spread-≤, total_below-term, ways_last}
 
 -- the convolution of the first corners and the next one

@@ -2,10 +2,8 @@
 -- the counts of its corners.
 use Rattle.std.specs.Prelude.{◌≡◌, Contains, ℕ, suc, ◌+◌, ◌≤◌, true, ◌&&◌, int_le, ℤ, pos, negsuc, ◌≤ℤ◌, List, [], ◌∷◌, length}
 use Rattle.std.specs.List.{AllByRecursion}
-use Rattle.std.specs.Ordering.{int_eq}
 use Rattle.std.proofs.Common.{refl, arith, le_trans}
 use Rattle.std.proofs.lemmas.Int.{ints}
-use Rattle.std.proofs.lemmas.Bool.Decides.{Decides-int_eq}
 use Rattle.tv_spec_plane.specs.Web.{Web, degree_of}
 use Rattle.tv_partition.specs.Rows.{IsDiagram}
 use Rattle.tv_cells.specs.declared.legs.Legs.{Legs}
@@ -14,10 +12,11 @@ use Rattle.tv_spec_boxes.specs.Assignments.{Rows, Assignment, all_legs, class_of
 use Rattle.tv_spec_boxes.specs.Configurations.{fillings, boxes_left}
 use Rattle.tv_spec_boxes.specs.Numbers.{lowest, box_bound, sum_of, crowd_on, crowd}
 use Rattle.tv_spec_boxes.proofs.Sums.{sum_of-term}
+use Rattle.tv_spec_boxes.proofs.Vectors.{same_vector-same}
 use Rattle.tv_degrees.specs.Grades.{IsGraded}
 use Rattle.tv_gluing.specs.Ways.{corner_ways, ways_at, IsListed}
 use Rattle.tv_gluing.specs.Laws.{CrowdOfClass, CrowdOfFront, CrowdOfCorner}
-use Rattle.tv_gluing.proofs.Lists.{all-onto, all-filter, all-contains, all-members, contains-filter}
+use Rattle.tv_lemmas.proofs.Members.{all-onto, all-filter, all-contains, all-members, contains-filter}
 use Rattle.tv_gluing.proofs.CornerWays.{ways-front, ways-each}
 use Rattle.tv_gluing.proofs.Fillings.{fillings_counted, legs_are}
 use Rattle.tv_gluing.proofs.SignedCounts.{assignments_have_diagrams}
@@ -70,13 +69,8 @@ crowd_of_class w fixed d v i n graded also least most h =
     (λ a among. crowd_on-ways (all_legs w a fixed) (boxes_left w fixed a i) (box_bound n (lowest w fixed d)) (legs_are w a fixed (diagrams_of w d a among) also) (boxes_within w fixed d a i n among h))
     (assignments_of w v) (of_class_listed w d v graded most)))
 
--- one assignment of its class
-same_vector-own : (v : List ℤ) → same_vector v v ≡ true
-same_vector-own [] = refl
-same_vector-own (x ∷ v) = let e : int_eq x x ≡ true = (Decides-int_eq x x).1 refl in rw e (same_vector-own v)
-
 of_own_class : (w : Web) (d : ℕ) (a : Assignment) → IsGraded w → degree_of w.heights (class_of w a) ≤ℤ pos d → Contains (assignments w d) a → Contains (assignments_of w (class_of w a)) a
-of_own_class w d a graded h among = rw (assignments_by_degree w d (class_of w a) graded h) (contains-filter (λ b. same_vector (class_of w b) (class_of w a)) a (assignments w d) among (same_vector-own (class_of w a)))
+of_own_class w d a graded h among = rw (assignments_by_degree w d (class_of w a) graded h) (contains-filter (λ b. same_vector (class_of w b) (class_of w a)) a (assignments w d) among (same_vector-same (class_of w a)))
 
 pub crowd_of_assignment : (w : Web) (fixed : List Rows) (d : ℕ) (a : Assignment) (n : ℤ) (m : ℕ) → IsGraded w → AllByRecursion IsDiagram fixed → Contains (assignments w d) a → m ≤ box_bound n (lowest w fixed d) → corner_ways (all_legs w a fixed) m ≤ crowd w fixed d n (class_of w a)
 crowd_of_assignment w fixed d a n m graded also among h =

@@ -1,24 +1,25 @@
 -- The degree of an assignment's class is the sum of sizes times degrees, so in a graded web the assignments of a class
 -- are found among all of degree at most a bound.
-use Rattle.std.specs.Prelude.{◌≡◌, ℕ, zero, suc, ◌*◌, ◌≤◌, ◌<◌, Bool, true, false, ◌&&◌, nat_le, ℤ, pos, negsuc, ◌+ℤ◌, ◌*ℤ◌, ◌≤ℤ◌, ◌<ℤ◌, List, [], ◌∷◌, map, filter, length}
+use Rattle.std.specs.Prelude.{◌≡◌, ℕ, zero, suc, ◌*◌, ◌≤◌, ◌<◌, true, nat_le, ℤ, pos, negsuc, ◌+ℤ◌, ◌*ℤ◌, ◌≤ℤ◌, ◌<ℤ◌, List, [], ◌∷◌, map, filter, length}
 use Rattle.std.specs.List.{AllByRecursion}
-use Rattle.std.specs.Ordering.{int_eq}
 use Rattle.std.proofs.Common.{refl, sym, ap, ◌∙◌, arith}
 use Rattle.std.proofs.lemmas.Int.{ints}
 use Rattle.std.proofs.lemmas.List.{length-map}
-use Rattle.std.proofs.lemmas.Bool.Decides.{nat_tests, Decides-int_eq}
+use Rattle.std.proofs.lemmas.Bool.Decides.{nat_tests}
 use Rattle.tv_lemmas.proofs.Integers.{diff_of, diff-same, diffs}
 use Rattle.tv_edge_laws.proofs.Ring.{mul-add}
 use Rattle.tv_spec_plane.specs.declared.records.CompactEdge.{CompactEdge}
 use Rattle.tv_spec_plane.specs.Web.{Web, compact, class_entry, edge_class, edge_degree, degree_of}
 use Rattle.tv_partition.specs.Rows.{size}
 use Rattle.tv_spec_boxes.specs.Assignments.{Assignment, zeros, plus, times, class_on, class_of, weight, choices, assignments, same_vector}
+use Rattle.tv_spec_boxes.proofs.Vectors.{same_vector_tells}
 use Rattle.tv_spec_boxes.proofs.OneCornerCrowd.{degree_zero}
 use Rattle.tv_degrees.specs.Grades.{HasDegree, IsGraded}
 use Rattle.tv_degrees.proofs.Entries.{entries-length}
 use Rattle.tv_gluing.specs.Ways.{IsListed}
 use Rattle.tv_gluing.specs.Laws.{AssignmentsByDegree, AssignmentsListed}
-use Rattle.tv_gluing.proofs.Lists.{all-onto, filter-weaker}
+use Rattle.tv_lemmas.proofs.Lists.{filter-weaker}
+use Rattle.tv_lemmas.proofs.Members.{all-onto}
 use Rattle.tv_gluing.proofs.Choices.{degree_by, IsChoice, choices_are, choice_small, choices-within}
 
 pub degree_of-plus : (hs u v : List ℤ) → degree_of hs (plus u v) ≡ degree_of hs u +ℤ degree_of hs v
@@ -61,19 +62,8 @@ class_on-degree w (e ∷ es) graded (rows ∷ a) =
 pub class_of-degree : (w : Web) → IsGraded w → (a : Assignment) → degree_of w.heights (class_of w a) ≡ pos (degree_by (weights w (compact w)) a)
 class_of-degree w graded a = class_on-degree w (compact w) graded a
 
-and-both : (a b : Bool) → a && b ≡ true → (a ≡ true) × (b ≡ true)
-and-both true b e = (refl, e)
-and-both false b e = absurd (let f : false ≡ true = e in cc)
-
 pub same_vector-eq : (u v : List ℤ) → same_vector u v ≡ true → u ≡ v
-same_vector-eq [] [] e = refl
-same_vector-eq [] (y ∷ v) e = absurd (let f : false ≡ true = e in cc)
-same_vector-eq (x ∷ u) [] e = absurd (let f : false ≡ true = e in cc)
-same_vector-eq (x ∷ u) (y ∷ v) e =
-    let parts = and-both (int_eq x y) (same_vector u v) e in
-    let head : x ≡ y = (Decides-int_eq x y).0 parts.0 in
-    let tail : u ≡ v = same_vector-eq u v parts.1 in
-    cc
+same_vector-eq u v e = same_vector_tells u v e
 
 weight-within : (z : ℤ) (d : ℕ) → z ≤ℤ pos d → weight z ≤ d
 weight-within (pos n) d h = omega (arith, ints)
@@ -82,7 +72,7 @@ weight-within (negsuc n) d h = omega arith
 -- a class has the degree that its assignments have
 class-within : (w : Web) → IsGraded w → (v : List ℤ) (a : Assignment) → same_vector (class_of w a) v ≡ true → nat_le (degree_by (weights w (compact w)) a) (weight (degree_of w.heights v)) ≡ true
 class-within w graded v a e =
-    let same : class_of w a ≡ v = same_vector-eq (class_of w a) v e in
+    let same : class_of w a ≡ v = same_vector_tells (class_of w a) v e in
     let degree : degree_of w.heights v ≡ pos (degree_by (weights w (compact w)) a) = ap (degree_of w.heights) (sym same) ∙ class_of-degree w graded a in
     let exact : weight (degree_of w.heights v) ≡ degree_by (weights w (compact w)) a = ap weight degree in
     grind (arith, nat_tests)

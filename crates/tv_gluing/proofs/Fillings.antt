@@ -18,7 +18,9 @@ use Rattle.tv_spec_boxes.specs.Assignments.{Rows, Assignment, rows_at, legs_of, 
 use Rattle.tv_spec_boxes.specs.Configurations.{extras_of, fillings, fillings_of, boxes_left, configuration}
 use Rattle.tv_gluing.specs.Ways.{split, spread, ways, corner_ways, ways_at}
 use Rattle.tv_gluing.specs.Laws.{FillingsCounted, ConfigurationsCounted}
-use Rattle.tv_gluing.proofs.Lists.{all-map, all-any, all-everywhere, length-pairs, length-numbered}
+use Rattle.tv_lemmas.proofs.Lists.{length-pairs}
+use Rattle.tv_lemmas.proofs.Members.{all-map, all-any, all-everywhere}
+use Rattle.tv_gluing.proofs.Lists.{length-numbered}
 
 -- the fillings with i boxes at the first corner
 abbrev with_first : Legs → List Legs → ℕ → ℕ → ℕ → List (List (List Cell))

@@ -1,18 +1,19 @@
 -- The signed count of a class is the sum of the coefficients of its assignments.
-use Rattle.std.specs.Prelude.{◌≡◌, ℕ, ℤ, pos, ◌+ℤ◌, ◌*ℤ◌, List, [], ◌∷◌, ◌++◌, map, length}
+use Rattle.std.specs.Prelude.{◌≡◌, ℕ, ℤ, pos, ◌+ℤ◌, ◌*ℤ◌, List, [], ◌∷◌, ◌++◌, map}
 use Rattle.std.specs.List.{flat_map, AllByRecursion}
 use Rattle.std.proofs.Common.{refl, ap, ◌∙◌, arith}
 use Rattle.std.proofs.lemmas.Int.{ints}
-use Rattle.tv_edge_laws.proofs.Ring.{mul-add}
 use Rattle.tv_spec_plane.specs.Web.{Web, compact, edge_degree, degree_of, sign}
 use Rattle.tv_partition.specs.Rows.{IsDiagram}
 use Rattle.tv_cells.specs.declared.cell.Cell.{Cell}
 use Rattle.tv_spec_boxes.specs.Assignments.{Rows, Assignment, all_legs, class_of, edge_twist, assignments, assignments_of, same_vector, weight}
 use Rattle.tv_spec_boxes.specs.Configurations.{configuration, configuration_sign, configurations_on, fillings_of, boxes_left, total, signed_count}
+use Rattle.tv_spec_boxes.proofs.Sums.{total-same}
+pub use Rattle.tv_spec_boxes.proofs.Sums.{total-alike}
 use Rattle.tv_sign_laws.proofs.Members.{IsOf, configurations_are}
 use Rattle.tv_gluing.specs.Ways.{assignment_sign, assignment_coefficient}
 use Rattle.tv_gluing.specs.Laws.{SignedCountIs}
-use Rattle.tv_gluing.proofs.Lists.{all-onto, all-both, all-filter, all-pieces}
+use Rattle.tv_lemmas.proofs.Members.{all-onto, all-both, all-filter, all-pieces}
 use Rattle.tv_gluing.proofs.Fillings.{configurations_counted}
 use Rattle.tv_gluing.proofs.Choices.{IsChoice, choices_are}
 
@@ -25,16 +26,6 @@ pub total-flat_map : {A B : Type 0} (f : B → ℤ) (g : A → List B) (xs : Lis
 unfolding total
 total-flat_map f g [] = refl
 total-flat_map f g (x ∷ xs) = total-append f (g x) (flat_map g xs) ∙ ap (λ s. total f (g x) +ℤ s) (total-flat_map f g xs)
-
-pub total-same : {A : Type 0} (f g : A → ℤ) (xs : List A) → AllByRecursion (λ x. f x ≡ g x) xs → total f xs ≡ total g xs
-unfolding total
-total-same f g [] all = refl
-total-same f g (x ∷ xs) all = omega (arith, ints, all.0, total-same f g xs all.1)
-
-pub total-alike : {A : Type 0} (f : A → ℤ) (s : ℤ) (xs : List A) → AllByRecursion (λ x. f x ≡ s) xs → total f xs ≡ s *ℤ pos (length xs)
-unfolding total
-total-alike f s [] all = omega (arith, ints)
-total-alike f s (x ∷ xs) all = omega (arith, ints, all.0, total-alike f s xs all.1, mul-add s (pos 1) (pos (length xs)))
 
 -- each configuration on an assignment at n has one sign
 signs_on : (w : Web) (fixed : List Rows) (v : List ℤ) (n : ℤ) (a : Assignment) (fills : List (List (List Cell))) → AllByRecursion (IsOf w fixed v n) (map (configuration a) fills) → AllByRecursion (λ c. configuration_sign w fixed c ≡ assignment_sign w a n) (map (configuration a) fills)
