@@ -17,7 +17,7 @@ use Rattle.tv_degrees.specs.Grades.{IsGraded}
 use Rattle.tv_gluing.specs.Ways.{assignment_coefficient}
 use Rattle.tv_gluing.proofs.Degrees.{assignments_by_degree}
 use Rattle.tv_gluing.proofs.SignedCounts.{signed_count_is}
-use Rattle.tv_gluing.proofs.Lists.{all-both, all-members, all-contains}
+use Rattle.tv_lemmas.proofs.Members.{all-both, all-members, all-contains}
 use Rattle.tv_glue_laws.specs.Full.{HasCounts, IsFullRow, IsFull, FullIsOnly}
 use Rattle.tv_glue_laws.specs.Glued.{class_total, StartsAbove, IsGlued}
 use Rattle.tv_glue_laws.proofs.Totals.{class_total_is}

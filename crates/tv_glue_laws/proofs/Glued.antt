@@ -11,12 +11,13 @@ use Rattle.tv_spec_plane.specs.Web.{Web}
 use Rattle.tv_spec_boxes.specs.Assignments.{Rows, Assignment, assignments, class_of, same_vector}
 use Rattle.tv_spec_boxes.specs.Classes.{IsClass}
 use Rattle.tv_spec_series.specs.Families.{Row, Family, row, without_rows, classes, coefficient, coefficient_of, added, IsFamily, IsAddend}
-use Rattle.tv_spec_series.proofs.Order.{same_vector_tells, same_vector-equal}
+use Rattle.tv_spec_boxes.proofs.Vectors.{same_vector_tells}
+use Rattle.tv_spec_series.proofs.Order.{same_vector-equal}
 use Rattle.tv_spec_series.proofs.Rows.{find-nil, put_all, put_classes}
 use Rattle.tv_spec_series.proofs.Members.{members_put}
 use Rattle.tv_spec_series.proofs.Sums.{coefficient_of-added, coefficient_of-added_other}
 use Rattle.tv_gluing.specs.Ways.{assignment_coefficient}
-use Rattle.tv_gluing.proofs.Lists.{all-append, all-onto}
+use Rattle.tv_lemmas.proofs.Members.{all-append, all-onto}
 use Rattle.tv_gluing.proofs.Bounds.{starts_above}
 use Rattle.tv_glue_laws.specs.Glued.{class_total, IsTermsOf, StartsAbove, IsGlued}
 use Rattle.tv_glue_laws.proofs.Totals.{class_total-none, class_total-here, class_total-other}

@@ -8,6 +8,7 @@ use Rattle.tv_spec_boxes.specs.Assignments.{Rows, Assignment, all_legs, class_of
 use Rattle.tv_spec_boxes.specs.Configurations.{boxes_left, total}
 use Rattle.tv_spec_boxes.specs.Numbers.{sum_of}
 use Rattle.tv_gluing.specs.Ways.{ways_at, assignment_sign, assignment_coefficient}
+use Rattle.tv_spec_boxes.proofs.Sums.{total-one}
 use Rattle.tv_gluing.proofs.SignedCounts.{total-append}
 use Rattle.tv_glue_laws.specs.Glued.{of_class, class_total}
 
@@ -35,10 +36,6 @@ of_class-other w v front a e = filter-append (λ b. same_vector (class_of w b) v
 pub class_total-none : (w : Web) (fixed : List Rows) (v : List ℤ) (i : ℤ) → class_total w fixed v i [] ≡ pos 0
 unfolding class_total total
 class_total-none w fixed v i = refl
-
-total-one : {A : Type 0} (f : A → ℤ) (x : A) → total f (x ∷ []) ≡ f x
-unfolding total
-total-one f x = omega (arith, ints)
 
 pub class_total-here : (w : Web) (fixed : List Rows) (v : List ℤ) (i : ℤ) (front : List Assignment) (a : Assignment) → same_vector (class_of w a) v ≡ true → class_total w fixed v i (front ++ a ∷ []) ≡ class_total w fixed v i front +ℤ assignment_coefficient w fixed a i
 class_total-here w fixed v i front a e =

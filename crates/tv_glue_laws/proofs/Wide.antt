@@ -11,12 +11,12 @@ use Rattle.tv_partition.specs.Rows.{IsDiagram}
 use Rattle.tv_spec_boxes.specs.Assignments.{Rows, Assignment, assignments, class_of, assignments_of}
 use Rattle.tv_spec_boxes.specs.Numbers.{sum_of, crowd}
 use Rattle.tv_spec_series.specs.Families.{Family, coefficient, coefficient_of}
-use Rattle.tv_spec_series.proofs.Order.{same_vector-same}
+use Rattle.tv_spec_boxes.proofs.Vectors.{same_vector-same}
 use Rattle.tv_degrees.specs.Grades.{IsGraded}
 use Rattle.tv_gluing.specs.Ways.{IsListed, assignment_coefficient}
 use Rattle.tv_gluing.proofs.Degrees.{assignments_by_degree, assignments_listed}
 use Rattle.tv_gluing.proofs.Crowds.{crowd_of_class}
-use Rattle.tv_gluing.proofs.Lists.{all-contains}
+use Rattle.tv_lemmas.proofs.Members.{all-contains}
 use Rattle.tv_glue_laws.proofs.Totals.{class_ways, class_ways_is, ways_on, class_ways-here, class_ways-front, class_total-size, coefficient-ways}
 use Rattle.tv_glue_laws.specs.Glued.{class_total, IsTermsOf, IsGlued}
 

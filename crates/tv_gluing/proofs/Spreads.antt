@@ -1,10 +1,10 @@
 -- Convolutions of sequences of numbers: their first and last terms, their order, and convolutions of lists of them.
 use Rattle.std.specs.Prelude.{◌≡◌, ℕ, zero, suc, ◌+◌, ◌-◌, ◌*◌, ◌≤◌, ◌<◌, [], ◌∷◌, ◌++◌}
-use Rattle.std.proofs.Common.{refl, sym, ap, ◌∙◌, arith, inl, inr}
+use Rattle.std.proofs.Common.{refl, sym, ap, ◌∙◌, arith, inl, inr, add-mul}
 use Rattle.std.proofs.Math.Nat.{mul-le-mul_left}
 use Rattle.std.proofs.lemmas.Bool.{cases_eq}
 use Rattle.tv_ring.specs.Sums.{total_below}
-use Rattle.tv_ring.proofs.Sums.{total_below-more, total_below-same, total_below-≤}
+use Rattle.tv_ring.proofs.Sums.{total_below-none, total_below-more, total_below-same, total_below-≤}
 use Rattle.tv_gluing.specs.Ways.{split, spread, ways}
 use Rattle.tv_gluing.specs.Laws.{WaysSwap, WaysLast}
 
@@ -16,6 +16,10 @@ pub total_below-front : (f : ℕ → ℕ) (n : ℕ) → total_below f (suc n) �
 unfolding total_below
 total_below-front f zero = omega arith
 total_below-front f (suc n) = let rest = total_below-front f n in omega arith
+
+pub total_below-times : (f : ℕ → ℕ) (s n : ℕ) → total_below (λ i. f i * s) n ≡ total_below f n * s
+total_below-times f s zero = rw (total_below-none (λ i. f i * s), total_below-none f) (omega arith)
+total_below-times f s (suc n) = rw (total_below-more (λ i. f i * s) n, total_below-more f n, add-mul (total_below f n) (f n) s, total_below-times f s n) refl
 
 pub split_is : (c f : ℕ → ℕ) (n i : ℕ) → split c f n i ≡ c i * f (n - i)
 unfolding split

@@ -6,10 +6,11 @@ use Rattle.std.proofs.lemmas.Int.{ints}
 use Rattle.tv_spec_boxes.specs.Assignments.{class_of, assignments, same_vector}
 use Rattle.tv_spec_boxes.specs.Configurations.{total}
 use Rattle.tv_gluing.specs.Ways.{assignment_coefficient}
-use Rattle.tv_gluing.proofs.Lists.{all-filter, all-members}
+use Rattle.tv_lemmas.proofs.Members.{all-filter, all-members}
 use Rattle.tv_gluing.proofs.Bounds.{starts_above, none_below_start}
 use Rattle.tv_gluing.proofs.Degrees.{assignments_by_degree}
-use Rattle.tv_gluing.proofs.SignedCounts.{signed_count_is, total-alike}
+use Rattle.tv_spec_boxes.proofs.Sums.{total-alike}
+use Rattle.tv_gluing.proofs.SignedCounts.{signed_count_is}
 use Rattle.tv_reduced_laws.specs.Laws.{NothingBelow}
 
 times-zero : (k : ℕ) → pos 0 *ℤ pos k ≡ pos 0

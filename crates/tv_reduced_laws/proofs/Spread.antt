@@ -12,7 +12,7 @@ use Rattle.tv_ring.proofs.Sizes.{size-whole_times}
 use Rattle.tv_terms.specs.Terms.{Terms, above}
 use Rattle.tv_terms.specs.Quotients.{series_quotient}
 use Rattle.tv_terms.proofs.Exponents.{above_is}
-use Rattle.tv_gluing.proofs.Spreads.{after_first, total_below-front}
+use Rattle.tv_gluing.proofs.Spreads.{after_first, total_below-front, total_below-times}
 use Rattle.tv_spec_series.specs.Reduced.{quotient_size}
 use Rattle.tv_spec_series.proofs.Coefficients.{coefficient_at}
 use Rattle.tv_reduced_laws.proofs.Rows.{IsGiven, quotient_from, quotient_value}
@@ -28,10 +28,6 @@ total_below-back f (suc n) =
     let first : backwards f (suc n) 0 ≡ f n = ap f (omega arith) in
     let front = total_below-front (backwards f (suc n)) n in let more = total_below-more f n in let back = total_below-back f n in
     omega arith
-
-total_below-times : (f : ℕ → ℕ) (s n : ℕ) → total_below (λ i. f i * s) n ≡ total_below f n * s
-total_below-times f s zero = rw (total_below-none (λ i. f i * s), total_below-none f) (omega arith)
-total_below-times f s (suc n) = rw (total_below-more (λ i. f i * s) n, total_below-more f n, add-mul (total_below f n) (f n) s, total_below-times f s n) refl
 
 -- with the size of one at most 1
 small_product : (x y f g s : ℕ) → s ≤ 1 → x ≤ f * s → y ≤ g * s → x * y ≤ (f * g) * s

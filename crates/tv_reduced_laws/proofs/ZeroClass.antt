@@ -8,13 +8,15 @@ use Rattle.tv_spec_plane.specs.declared.records.CompactEdge.{CompactEdge}
 use Rattle.tv_spec_plane.specs.declared.records.EdgeRef.{EdgeRef}
 use Rattle.tv_spec_plane.specs.declared.records.EdgeRef.TheVariants.{Compact, Outer}
 use Rattle.tv_spec_plane.specs.declared.records.Corner.{Corner}
-use Rattle.tv_spec_plane.specs.Web.{Web, compact, outer, corners, numbers_from, normal_a, edge_class, edge_degree, class_entry, degree_of, sign}
+use Rattle.tv_spec_plane.specs.Web.{Web, compact, outer, corners, normal_a, edge_class, edge_degree, class_entry, degree_of, sign}
 use Rattle.tv_partition.specs.Rows.{IsDiagram, diagrams, diagrams_within}
 use Rattle.tv_cells.specs.declared.legs.Legs.{Legs}
 use Rattle.tv_cells.specs.Costs.{rows_cost}
 use Rattle.tv_cells.proofs.Overlaps.{no-overlap}
 use Rattle.tv_spec_boxes.specs.Assignments.{Assignment, no_legs, rows_at, legs_of, all_legs, zeros, plus, times, class_on, class_of, costs_on, twist_on, overlaps_of, weight, choices, assignments, same_vector, assignments_of}
 use Rattle.tv_spec_boxes.specs.Configurations.{total, boxes_left}
+use Rattle.tv_degrees.proofs.Entries.{entries-length}
+use Rattle.tv_spec_boxes.proofs.Sums.{total-one}
 use Rattle.tv_gluing.specs.Ways.{ways_at, assignment_sign, assignment_coefficient}
 use Rattle.tv_gluing.proofs.CornerWays.{ways-start}
 use Rattle.tv_gluing.proofs.SignedCounts.{signed_count_is}
@@ -49,14 +51,10 @@ plus-zeros : (n : ℕ) → plus (zeros n) (zeros n) ≡ zeros n
 plus-zeros zero = refl
 plus-zeros (suc n) = ap (λ v. pos 0 ∷ v) (plus-zeros n)
 
-numbers-length : {A : Type 0} (f : ℕ → A) (k n : ℕ) → length (map f (numbers_from k n)) ≡ n
-numbers-length f k zero = refl
-numbers-length f k (suc n) = ap suc (numbers-length f (suc k) n)
-
 pub class_on-nothing : (w : Web) (es : List CompactEdge) → class_on w es (nothing es) ≡ zeros (length w.points)
 class_on-nothing w [] = refl
 class_on-nothing w (e ∷ es) =
-    let first = times-none (edge_class w e) ∙ ap zeros (numbers-length (class_entry w e) 0 (length w.points)) in
+    let first = times-none (edge_class w e) ∙ ap zeros (entries-length (class_entry w e) (length w.points)) in
     rw (first, class_on-nothing w es) (plus-zeros (length w.points))
 
 pub degree-zeros : (hs : List ℤ) (n : ℕ) → degree_of hs (zeros n) ≡ pos 0
@@ -122,10 +120,6 @@ coefficient-nothing w n = rw (sign-nothing w n, left-nothing w n) refl
 empty_diagrams : {A : Type 0} (es : List A) → AllByRecursion IsDiagram (nothing es)
 empty_diagrams [] = tt
 empty_diagrams (e ∷ es) = (tt, empty_diagrams es)
-
-total-one : (f : Assignment → ℤ) (a : Assignment) → total f (a ∷ []) ≡ f a
-unfolding total
-total-one f a = omega (arith, ints)
 
 zero-class : (w : Web) (n : ℤ) → zero_coefficient w (no_legs w) n ≡ sign n *ℤ pos (ways_at (all_legs w (nothing (compact w)) (no_legs w)) n)
 zero-class w n =

@@ -7,6 +7,7 @@ use Rattle.std.specs.Ordering.{int_eq}
 use Rattle.tv_terms.proofs.NormalForm.{bool_cases}
 use Rattle.tv_spec_plane.specs.Web.{degree_of}
 use Rattle.tv_spec_boxes.specs.Assignments.{same_vector}
+use Rattle.tv_spec_boxes.proofs.Vectors.{same_vector-same, same_vector_tells}
 use Rattle.tv_spec_boxes.specs.Classes.{EntriesBefore, IsBefore, ClassesRise}
 use Rattle.tv_spec_series.specs.Families.{entries_before, comes_before}
 
@@ -41,23 +42,6 @@ or-right true b c e e' = refl
 or-right false b c e e' = rw (e, e') refl
 
 -- ---- equal vectors
-
-pub same_vector-same : (v : List ℤ) → same_vector v v ≡ true
-same_vector-same [] = refl
-same_vector-same (x ∷ v) = rw (int_eq-true x x refl) (same_vector-same v)
-
-and_tells : (a b : Bool) → (a && b) ≡ true → (a ≡ true) × (b ≡ true)
-and_tells true true h = (refl, refl)
-and_tells true false h = absurd (cc)
-and_tells false b h = absurd (cc)
-
-pub same_vector_tells : (u v : List ℤ) → same_vector u v ≡ true → u ≡ v
-same_vector_tells [] [] h = refl
-same_vector_tells [] (y ∷ v) h = absurd (cc)
-same_vector_tells (x ∷ u) [] h = absurd (cc)
-same_vector_tells (x ∷ u) (y ∷ v) h =
-    let p = and_tells (int_eq x y) (same_vector u v) h in
-    ap (λ z. z ∷ u) (int_eq_tells x y p.0) ∙ ap (λ w. y ∷ w) (same_vector_tells u v p.1)
 
 pub same_vector-equal : (u v : List ℤ) → u ≡ v → same_vector u v ≡ true
 same_vector-equal u v e = rw e (same_vector-same v)

@@ -8,7 +8,8 @@ use Rattle.tv_terms.proofs.NormalForm.{bool_cases}
 use Rattle.tv_spec_boxes.specs.Assignments.{same_vector}
 use Rattle.tv_spec_boxes.specs.Classes.{IsBefore, ClassesRise}
 use Rattle.tv_spec_series.specs.Families.{Row, row, classes, comes_before, find, put, with_series}
-use Rattle.tv_spec_series.proofs.Order.{same_vector_tells, same_vector-same, same_vector-equal, same_vector-other, comes_before_tells, before_apart, before_strict, before_trans, after_from, rise_tail, all_after, first_before, rise_onto}
+use Rattle.tv_spec_boxes.proofs.Vectors.{same_vector_tells, same_vector-same}
+use Rattle.tv_spec_series.proofs.Order.{same_vector-equal, same_vector-other, comes_before_tells, before_apart, before_strict, before_trans, after_from, rise_tail, all_after, first_before, rise_onto}
 
 -- ---- the equations of `find` and `put`
 
