@@ -2,6 +2,7 @@
 use Rattle.std.proofs.Common.{◌≡◌, ◌≢◌, ℕ, ℤ, List, [], ◌∷◌, ◌++◌, length, map, drop, get_or, refl, sym, ◌∙◌, ap, subst, arith, inl, inr, ◌⊎◌, append_assoc, append-nil}
 use Rattle.std.specs.Prelude.{Option, Some, None, MatchOption, ⊤}
 use Rattle.std.specs.List.{AllByRecursion}
+use Rattle.std.proofs.lemmas.List.{map-append}
 use Rattle.tv_spec_plane.specs.declared.records.RawPoint.{RawPoint}
 use Rattle.tv_spec_plane.specs.declared.records.Triple.{Triple}
 use Rattle.tv_spec_plane.specs.Web.{Web}
@@ -15,7 +16,6 @@ use Rattle.tv_text.specs.declared.stage.Stage.{Stage}
 use Rattle.tv_text.specs.declared.stage.Stage.TheVariants.{Opening, Points, Triangles, Closing, Done}
 use Rattle.tv_text.specs.Rows.{IsRow, IsNoRow}
 use Rattle.tv_text.specs.Stages.{stage_after, web_with, RestHeights, RestTriangles, RestPoints, Rest, Seen, IsAt}
-use Rattle.tv_text.proofs.Spellings.{map-push}
 
 -- the lines of a file after the first are a rest
 
@@ -131,11 +131,11 @@ one_more ls seen l m e h = ap (λ k. k ++ l ∷ []) e ∙ ap (λ k. seen ++ k �
 
 Seen-step : (s : Stage) (r : Row) (w : Web) (ls : List Line) (l : Line) → IsRow r l → Seen s w ls → MatchOption (stage_after s r) ⊤ (λ t. Seen t (web_with w r) (ls ++ l ∷ []))
 Seen-step Opening First w ls l row seen = (seen.1, one_more ls [] l first_line seen.2 row ∙ ap (λ ps. first_line ∷ map point_line ps) (sym seen.0))
-Seen-step Points (Point p) w ls l row seen = (seen.0, one_more _ _ _ _ seen.1 row.1 ∙ ap (λ k. first_line ∷ k) (sym (map-push point_line w.points p)))
+Seen-step Points (Point p) w ls l row seen = (seen.0, one_more _ _ _ _ seen.1 row.1 ∙ ap (λ k. first_line ∷ k) (sym (map-append point_line w.points (p ∷ []))))
 Seen-step Points (Triangle t) w ls l row seen = one_more _ _ _ _ seen.1 row.1 ∙ ap (λ ts. first_line ∷ (map point_line w.points ++ map triangle_line (ts ++ t ∷ []))) (sym seen.0)
 Seen-step Points (Heights v) w ls l row seen = one_more _ _ _ _ seen.1 row.1 ∙ ap (λ ts. first_line ∷ (map point_line w.points ++ (map triangle_line ts ++ (heights_line v.items ∷ [])))) (sym seen.0)
 Seen-step Triangles (Triangle t) w ls l row seen =
-    one_more _ _ _ _ seen row.1 ∙ ap (λ k. first_line ∷ k) (append_assoc (map point_line w.points) (map triangle_line w.triangles) (triangle_line t ∷ []) ∙ ap (λ k. map point_line w.points ++ k) (sym (map-push triangle_line w.triangles t)))
+    one_more _ _ _ _ seen row.1 ∙ ap (λ k. first_line ∷ k) (append_assoc (map point_line w.points) (map triangle_line w.triangles) (triangle_line t ∷ []) ∙ ap (λ k. map point_line w.points ++ k) (sym (map-append triangle_line w.triangles (t ∷ []))))
 Seen-step Triangles (Heights v) w ls l row seen =
     one_more _ _ _ _ seen row.1 ∙ ap (λ k. first_line ∷ k) (append_assoc (map point_line w.points) (map triangle_line w.triangles) (heights_line v.items ∷ []))
 Seen-step Closing End w ls l row seen =
