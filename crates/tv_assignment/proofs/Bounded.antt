@@ -1,11 +1,11 @@
 -- How far from 0 the costs of one edge and of one corner are.
-use Rattle.std.proofs.Common.{◌≡◌, ℕ, zero, suc, ◌+◌, ◌-◌, ◌*◌, ◌≤◌, List, [], ◌∷◌, ◌++◌, length, refl, ap, ◌∙◌, arith, le_trans, le_of_eq, length-append, suc-mul, mul_comm, Bool, true, false, w64}
+use Rattle.std.proofs.Common.{◌≡◌, ℕ, zero, suc, ◌+◌, ◌-◌, ◌*◌, ◌≤◌, List, [], ◌∷◌, length, refl, ap, ◌∙◌, arith, le_trans, le_of_eq, mul_comm, Bool, true, false, w64}
 use mir.Val.{to_z, of_z}
 use Rattle.std.specs.Prelude.{ℤ, pos, negsuc, ◌+ℤ◌, ◌-ℤ◌, ◌*ℤ◌, ◌≤ℤ◌, unsigned_abs, nat_abs}
-use Rattle.std.specs.List.{flat_map}
 use Rattle.std.proofs.lemmas.Int.{ints, unsigned_abs-mul}
 use Rattle.std.proofs.lemmas.List.{length-map}
 use Rattle.std.proofs.lemmas.Nat.{mul-le}
+use Rattle.tv_lemmas.proofs.Lists.{length-flat_map-le}
 use Rattle.tv_partition.specs.Rows.{IsSmall, size, has}
 use Rattle.tv_partition.proofs.Bounds.{few_rows, short_rows}
 use Rattle.tv_cells.specs.declared.cell.Cell.{Cell}
@@ -59,18 +59,9 @@ length-numbers k (suc n) = ap suc (length-numbers (suc k) n)
 length-column : (t : ℤ) (d h : ℕ) → length (column t d h) ≡ h
 length-column t d h = length-map (below h) (λ z. cell (d + x_from t) (d + y_from t) z) ∙ length-numbers 0 h
 
-length-pieces : {A B : Type 0} (f : A → List B) (m : ℕ) (xs : List A) → ((x : A) → length (f x) ≤ m) → length (flat_map f xs) ≤ length xs * m
-length-pieces f m [] few = omega arith
-length-pieces f m (x ∷ xs) few =
-    let both = length-append (f x) (flat_map f xs) in let here = few x in let rest = length-pieces f m xs few in
-    total (length (f x ++ flat_map f xs)) (length (f x)) (length (flat_map f xs)) (length xs) both here rest
-  where
-    total : (l p q n : ℕ) → l ≡ p + q → p ≤ m → q ≤ n * m → l ≤ suc n * m
-    total l p q n e hp hq = let more = suc-mul n m in omega arith
-
 length-diagonal : (t : ℤ) (n h side : ℕ) → n ≤ side → h ≤ side → length (diagonal t n h) ≤ side * side
 length-diagonal t n h side l m =
-    let pieces = length-pieces (λ d. column t d h) side (below n) (λ d. le_trans (le_of_eq (length-column t d h)) m) in
+    let pieces = length-flat_map-le (λ d. column t d h) side (λ d. le_trans (le_of_eq (length-column t d h)) m) (below n) in
     let number = length-numbers 0 n in
     le_trans pieces (mul-le (length (below n)) side side side (omega arith) (omega arith))
 
@@ -82,7 +73,7 @@ length-cube : (n : ℕ) → n ≤ 24 → length (cube n) ≤ 27072
 unfolding cube
 length-cube zero h = omega arith
 length-cube (suc n) h =
-    let pieces = length-pieces (λ t. diagonal t (suc n - nat_abs t) (suc n)) 576 (falling (suc (n + n)) (pos n)) (λ t. length-diagonal t (suc n - nat_abs t) (suc n) 24 (omega arith) h) in
+    let pieces = length-flat_map-le (λ t. diagonal t (suc n - nat_abs t) (suc n)) 576 (λ t. length-diagonal t (suc n - nat_abs t) (suc n) 24 (omega arith) h) (falling (suc (n + n)) (pos n)) in
     let number = length-falling (suc (n + n)) (pos n) in
     omega arith
 

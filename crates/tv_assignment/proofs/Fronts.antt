@@ -1,13 +1,13 @@
 -- The product of the series of the first corners: its coefficients, its sizes and its reaches.
-use Rattle.std.proofs.Common.{◌≡◌, ℕ, zero, suc, ◌+◌, ◌-◌, ◌*◌, ◌^◌, ◌<◌, ◌≤◌, min, cond, List, [], length, take, get_or, refl, sym, ◌∙◌, ap, arith, le_trans, add-mul, inl, inr}
+use Rattle.std.proofs.Common.{◌≡◌, ℕ, zero, suc, ◌+◌, ◌-◌, ◌*◌, ◌^◌, ◌<◌, ◌≤◌, min, cond, List, [], length, take, get_or, refl, sym, ◌∙◌, ap, arith, le_trans, inl, inr}
 use Rattle.std.specs.Prelude.{ℤ, pos, ◌+ℤ◌, ◌-ℤ◌, unsigned_abs, nat_eq}
 use Rattle.std.specs.Int.{int_min}
 use Rattle.std.proofs.lemmas.Int.{ints}
 use Rattle.std.proofs.lemmas.Nat.{mul-le}
 use Rattle.std.proofs.lemmas.Bool.Decides.{nat_tests}
 use Rattle.tv_ring.specs.Operations.{Operations, RingLaws, SizeLaws, limit}
-use Rattle.tv_ring.specs.Sums.{at, convolution, total_below, size_term, size_convolution, times}
-use Rattle.tv_ring.proofs.Sums.{total_below-none, total_below-more, total_below-≤}
+use Rattle.tv_ring.specs.Sums.{at, convolution, size_term, size_convolution, times}
+use Rattle.tv_ring.proofs.Sums.{total_below-≤}
 use Rattle.tv_ring.proofs.Products.{convolution-same, size_term_is, size_convolution_is}
 use Rattle.tv_ring.proofs.Times.{times-none, times-one}
 use Rattle.tv_ring.proofs.Sizes.{size-times, reach-times}
@@ -21,7 +21,7 @@ use Rattle.tv_cells.specs.Extras.{count}
 use Rattle.tv_vertex.specs.Corners.{extras_times, corner_terms}
 use Rattle.tv_vertex.proofs.Corners.{extras_times-is}
 use Rattle.tv_gluing.specs.Ways.{split, spread, corner_ways}
-use Rattle.tv_gluing.proofs.Spreads.{split_is, spread_is}
+use Rattle.tv_gluing.proofs.Spreads.{split_is, spread_is, total_below-times}
 use Rattle.tv_gluing.proofs.InRings.{multiples, convolution-multiples}
 use Rattle.tv_gluing.proofs.CornerWays.{front-none, front-next}
 use Rattle.tv_assignment.specs.Terms.{front_times, front_terms, IsBeyond}
@@ -43,10 +43,6 @@ unit-later r i none h e = e ∙ sym (front_times-is r [] i ∙ (ap (times r) (fr
     past (suc i) h = grind (arith, nat_tests)
 
 -- the sum of products of multiples
-total-times : (f : ℕ → ℕ) (u n : ℕ) → total_below (λ i. f i * u) n ≡ total_below f n * u
-total-times f u zero = rw (total_below-none (λ i. f i * u), total_below-none f) (omega arith)
-total-times f u (suc n) = rw (total_below-more (λ i. f i * u) n, total_below-more f n, total-times f u n) (sym (add-mul (total_below f n) (f n) u))
-
 term-small : (x y m n u : ℕ) → x ≤ m * u → y ≤ n * u → u ≤ 1 → x * y ≤ (m * n) * u
 term-small x y m n zero hx hy h = let none : x ≡ 0 = omega arith in rw none (omega arith)
 term-small x y m n (suc zero) hx hy h = let both = mul-le x y m n (omega arith) (omega arith) in omega arith
@@ -60,7 +56,7 @@ module _ {A : Type 0} {IsValue : A → Type 0} {r : Operations A} (laws : RingLa
 
   size_convolution-multiples : (F G : ℕ → A) (f g : ℕ → ℕ) (k : ℕ) → ((j : ℕ) → j ≤ k → F j ≡ times r (f j)) → ((j : ℕ) → j ≤ k → G j ≡ times r (g j)) → size_convolution r F G k ≤ spread f g k * r.size r.unit
   size_convolution-multiples F G f g k ef eg =
-      rw (size_convolution_is r F G k, spread_is f g k, ← total-times (split f g k) (r.size r.unit) (suc k))
+      rw (size_convolution_is r F G k, spread_is f g k, ← total_below-times (split f g k) (r.size r.unit) (suc k))
       (total_below-≤ (size_term r F G k) (λ i. split f g k i * r.size r.unit) (suc k) (λ i h. size-multiples F G f g k i (omega arith) ef eg))
 
   -- the coefficients of both factors

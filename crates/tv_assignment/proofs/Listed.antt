@@ -7,7 +7,7 @@ use Rattle.tv_partition.specs.Rows.{size}
 use Rattle.tv_spec_boxes.specs.Assignments.{Assignment, assignments}
 use Rattle.tv_degrees.specs.Grades.{IsGraded}
 use Rattle.tv_gluing.specs.Ways.{IsListed}
-use Rattle.tv_gluing.proofs.Lists.{all-contains, all-members, all-onto}
+use Rattle.tv_lemmas.proofs.Members.{all-contains, all-members, all-onto}
 use Rattle.tv_gluing.proofs.Choices.{degree_by, choices_are, IsChoice}
 use Rattle.tv_gluing.proofs.Degrees.{assignments_listed, weights, weights_positive}
 use Rattle.tv_assignment.specs.Terms.{cells_of}

@@ -8,7 +8,7 @@ use Rattle.tv_spec_plane.specs.Web.{Web, below, numbers_from}
 use Rattle.tv_web.proofs.Finding.{numbers_from-step, numbers_from-end}
 use Rattle.tv_partition.specs.Rows.{diagrams}
 use Rattle.tv_spec_boxes.specs.Assignments.{Rows, Assignment, choices, assignments}
-use Rattle.tv_gluing.proofs.Lists.{flat_map-filter}
+use Rattle.tv_lemmas.proofs.Lists.{flat_map-same, flat_map-filter}
 use Rattle.tv_assignment.specs.Listing.{behind, sized, degrees_of, AreSizes}
 
 behind-next : (front : List Rows) (rows : Rows) (lists : List Assignment) → behind front (map (λ a. rows ∷ a) lists) ≡ behind (front ++ rows ∷ []) lists
@@ -31,24 +31,20 @@ unfolding behind
 behind-cond front true xs ys e = e
 behind-cond front false xs ys e = refl
 
-same-pieces : {A B : Type 0} (f g : A → List B) → ((x : A) → f x ≡ g x) → (xs : List A) → flat_map f xs ≡ flat_map g xs
-same-pieces f g same [] = refl
-same-pieces f g same (x ∷ xs) = ap (λ ys. ys ++ flat_map f xs) (same x) ∙ ap (λ ys. g x ++ ys) (same-pieces f g same xs)
-
 -- the diagrams of one size
 behind-sized : (front : List Rows) (gs : List ℕ) (d g n : ℕ) → behind front (cond (nat_le (n * g) d) (flat_map (λ rows. map (λ a. rows ∷ a) (choices gs (d - (n * g)))) (diagrams n)) []) ≡ sized front gs d g n
 unfolding sized
 behind-sized front gs d g n =
     behind-cond front (nat_le (n * g) d) (flat_map (λ rows. map (λ a. rows ∷ a) (choices gs (d - (n * g)))) (diagrams n)) (flat_map (λ rows. behind (front ++ rows ∷ []) (choices gs (d - (n * g)))) (diagrams n))
     (behind-pieces front (λ rows. map (λ a. rows ∷ a) (choices gs (d - (n * g)))) (diagrams n)
-    ∙ same-pieces (λ rows. behind front (map (λ a. rows ∷ a) (choices gs (d - (n * g))))) (λ rows. behind (front ++ rows ∷ []) (choices gs (d - (n * g)))) (λ rows. behind-next front rows (choices gs (d - (n * g)))) (diagrams n))
+    ∙ flat_map-same (λ rows. behind front (map (λ a. rows ∷ a) (choices gs (d - (n * g))))) (λ rows. behind (front ++ rows ∷ []) (choices gs (d - (n * g)))) (λ rows. behind-next front rows (choices gs (d - (n * g)))) (diagrams n))
 
 choices-next : (front : List Rows) (g : ℕ) (gs : List ℕ) (d : ℕ) → behind front (choices (g ∷ gs) d) ≡ flat_map (sized front gs d g) (below (suc d))
 unfolding choices
 choices-next front g gs d =
     ap (behind front) (flat_map-filter (λ n. nat_le (n * g) d) (λ n. flat_map (λ rows. map (λ a. rows ∷ a) (choices gs (d - (n * g)))) (diagrams n)) (below (suc d)))
     ∙ (behind-pieces front (λ n. cond (nat_le (n * g) d) (flat_map (λ rows. map (λ a. rows ∷ a) (choices gs (d - (n * g)))) (diagrams n)) []) (below (suc d))
-    ∙ same-pieces (λ n. behind front (cond (nat_le (n * g) d) (flat_map (λ rows. map (λ a. rows ∷ a) (choices gs (d - (n * g)))) (diagrams n)) [])) (sized front gs d g) (behind-sized front gs d g) (below (suc d)))
+    ∙ flat_map-same (λ n. behind front (cond (nat_le (n * g) d) (flat_map (λ rows. map (λ a. rows ∷ a) (choices gs (d - (n * g)))) (diagrams n)) [])) (sized front gs d g) (behind-sized front gs d g) (below (suc d)))
 
 -- size by size
 pub sizes-first : (now : List Assignment) (front : List Rows) (g : ℕ) (gs degrees : List ℕ) (d : ℕ) → degrees ≡ g ∷ gs → now ++ flat_map (sized front gs d g) (numbers_from 0 ((d + 1) - 0)) ≡ now ++ behind front (choices degrees d)

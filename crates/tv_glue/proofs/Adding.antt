@@ -13,7 +13,7 @@ use Rattle.tv_graded.specs.Calls.{IsAddedWide}
 use Rattle.tv_degrees.specs.Grades.{IsGraded, IsHeighted}
 use Rattle.tv_gluing.specs.Ways.{IsListed}
 use Rattle.tv_gluing.proofs.Degrees.{assignments_listed}
-use Rattle.tv_gluing.proofs.Lists.{all-contains}
+use Rattle.tv_lemmas.proofs.Members.{all-contains}
 use Rattle.tv_assignment.specs.Terms.{cells_of, assignment_terms, IsTooMany}
 use Rattle.tv_assignment.proofs.Coefficients.{terms-upto, terms-low, terms-coefficient}
 use Rattle.tv_assignment.proofs.Listed.{listed-one_each, listed-few}

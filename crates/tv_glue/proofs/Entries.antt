@@ -11,7 +11,8 @@ use Rattle.tv_spec_plane.specs.Web.{Web, compact, class_entry, edge_class}
 use Rattle.tv_partition.specs.Rows.{size}
 use Rattle.tv_lattice.specs.Limits.{HasCoordinates}
 use Rattle.tv_lattice.specs.Classes.{IsEntry, IsEntries}
-use Rattle.tv_lattice.proofs.Each.{each_at, each_push}
+use Rattle.tv_lemmas.proofs.Members.{all-at}
+use Rattle.tv_lattice.proofs.Each.{each_push}
 use Rattle.tv_lattice.proofs.Sums.{small-fits}
 use Rattle.tv_edge_laws.specs.Rule.{HasRule}
 use Rattle.tv_spec_boxes.specs.Assignments.{Rows, Assignment, zeros, plus, times, class_on, class_of}
@@ -69,7 +70,7 @@ within-class w e v k is h = let n = ap length is in let l = entries-length (clas
 pub entry-small : (w : Web) (e : CompactEdge) (v : List ℤ) (k : ℕ) (x : ℤ) → AllByRecursion HasCoordinates w.points → HasRule w e → v ≡ edge_class w e → k < length w.points → x ≡ get_or v k (pos 0) → unsigned_abs x ≤ 402
 entry-small w e v k x small rule is h read =
     let all : AllByRecursion IsNormalDegree v = subst (AllByRecursion IsNormalDegree) (sym is) (class_entries-small w e small rule) in
-    let one : IsNormalDegree (get_or v k (pos 0)) = each_at IsNormalDegree v k (pos 0) (within-class w e v k is h) all in
+    let one : IsNormalDegree (get_or v k (pos 0)) = all-at IsNormalDegree v (pos 0) all k (within-class w e v k is h) in
     rw read one
 
 product-small : (n : ℕ) (x : ℤ) → unsigned_abs x ≤ 402 → unsigned_abs (pos n *ℤ x) ≤ n * 402

@@ -62,9 +62,6 @@ class_on-degree w (e ∷ es) graded (rows ∷ a) =
 pub class_of-degree : (w : Web) → IsGraded w → (a : Assignment) → degree_of w.heights (class_of w a) ≡ pos (degree_by (weights w (compact w)) a)
 class_of-degree w graded a = class_on-degree w (compact w) graded a
 
-pub same_vector-eq : (u v : List ℤ) → same_vector u v ≡ true → u ≡ v
-same_vector-eq u v e = same_vector_tells u v e
-
 weight-within : (z : ℤ) (d : ℕ) → z ≤ℤ pos d → weight z ≤ d
 weight-within (pos n) d h = omega (arith, ints)
 weight-within (negsuc n) d h = omega arith

@@ -1,4 +1,4 @@
--- The length of a list whose pieces are made number by number is the sum of theirs; what is true of each member.
+-- The length of a list whose pieces are made number by number is the sum of theirs.
 use Rattle.std.specs.Prelude.{◌≡◌, ℕ, zero, suc, ◌+◌, List, length}
 use Rattle.std.specs.List.{flat_map}
 use Rattle.std.proofs.Common.{sym, ap, ◌∙◌, arith, length-append}
@@ -6,9 +6,6 @@ use Rattle.tv_spec_plane.specs.Web.{numbers_from}
 use Rattle.tv_ring.specs.Sums.{total_below}
 use Rattle.tv_ring.proofs.Sums.{total_below-none, total_below-same}
 use Rattle.tv_gluing.proofs.Spreads.{after_first, total_below-front}
--- what crates above cite from here
-pub use Rattle.tv_lemmas.proofs.Lists.{flat_map-filter}
-pub use Rattle.tv_lemmas.proofs.Members.{all-append, all-filter, all-onto, all-both, all-everywhere, all-contains, all-members}
 
 pub length-numbered : {A : Type 0} (f : ℕ → List A) (k n : ℕ) → length (flat_map f (numbers_from k n)) ≡ total_below (λ i. length (f (k + i))) n
 length-numbered f k zero = sym (total_below-none (λ i. length (f (k + i))))

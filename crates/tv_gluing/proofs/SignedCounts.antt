@@ -8,8 +8,7 @@ use Rattle.tv_partition.specs.Rows.{IsDiagram}
 use Rattle.tv_cells.specs.declared.cell.Cell.{Cell}
 use Rattle.tv_spec_boxes.specs.Assignments.{Rows, Assignment, all_legs, class_of, edge_twist, assignments, assignments_of, same_vector, weight}
 use Rattle.tv_spec_boxes.specs.Configurations.{configuration, configuration_sign, configurations_on, fillings_of, boxes_left, total, signed_count}
-use Rattle.tv_spec_boxes.proofs.Sums.{total-same}
-pub use Rattle.tv_spec_boxes.proofs.Sums.{total-alike}
+use Rattle.tv_spec_boxes.proofs.Sums.{total-same, total-alike}
 use Rattle.tv_sign_laws.proofs.Members.{IsOf, configurations_are}
 use Rattle.tv_gluing.specs.Ways.{assignment_sign, assignment_coefficient}
 use Rattle.tv_gluing.specs.Laws.{SignedCountIs}

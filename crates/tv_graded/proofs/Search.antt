@@ -1,7 +1,7 @@
 -- How a search narrows the place of a class among sorted rows.
 use Rattle.std.proofs.Common.{◌≡◌, ℕ, zero, suc, ◌+◌, ◌<◌, ◌≤◌, ℤ, true, false, List, [], ◌∷◌, length, get_or, refl, ap, inl, inr, arith}
-use Rattle.std.specs.List.{AllByRecursion}
 use Rattle.std.proofs.lemmas.Bool.{cases_lt}
+use Rattle.tv_lemmas.proofs.Members.{all-at}
 use Rattle.tv_terms.proofs.NormalForm.{bool_cases}
 use Rattle.tv_spec_boxes.specs.Classes.{IsBefore, ClassesRise}
 use Rattle.tv_spec_series.specs.Families.{Row, classes, comes_before}
@@ -18,15 +18,10 @@ class_read [] i x read h = absurd (omega arith)
 class_read (y ∷ rows) zero x read h = ap (λ z. z.class) read
 class_read (y ∷ rows) (suc i) x read h = class_read rows i x read (omega arith)
 
-all_at : (P : List ℤ → Type 0) (vs : List (List ℤ)) (k : ℕ) → AllByRecursion P vs → k < length vs → P (get_or vs k [])
-all_at P [] k all h = absurd (omega arith)
-all_at P (v ∷ vs) zero all h = all.0
-all_at P (v ∷ vs) (suc k) all h = all_at P vs k all.1 (omega arith)
-
 rise_at : (hs : List ℤ) (vs : List (List ℤ)) (i j : ℕ) → ClassesRise hs vs → i < j → j < length vs → IsBefore hs (get_or vs i []) (get_or vs j [])
 rise_at hs [] i j rises h k = absurd (omega arith)
 rise_at hs (v ∷ vs) i zero rises h k = absurd (omega arith)
-rise_at hs (v ∷ vs) zero (suc j) rises h k = all_at (IsBefore hs v) vs j (first_before hs v vs rises) (omega arith)
+rise_at hs (v ∷ vs) zero (suc j) rises h k = all-at (IsBefore hs v) vs [] (first_before hs v vs rises) j (omega arith)
 rise_at hs (v ∷ vs) (suc i) (suc j) rises h k = rise_at hs vs i j (rise_tail hs v vs rises) (omega arith) (omega arith)
 
 -- the place is at least low and at most high

@@ -2,18 +2,13 @@
 use Rattle.std.proofs.Common.{◌≡◌, ℕ, zero, suc, arith, ◌+◌, ◌<◌, List, [], ◌∷◌, ◌++◌, length, take, get_or, sym, subst}
 use Rattle.std.proofs.lemmas.List.{take_more}
 use Rattle.std.specs.List.{AllByRecursion}
+use Rattle.tv_lemmas.proofs.Members.{all-append}
 
 pub each_push : {X : Type 0} (P : X → Type 0) (xs : List X) (y : X) → AllByRecursion P xs → P y → AllByRecursion P (xs ++ y ∷ [])
-each_push P [] y all last = (last, tt)
-each_push P (x ∷ xs) y all last = (all.0, each_push P xs y all.1 last)
+each_push P xs y all last = all-append P xs (y ∷ []) all (last, tt)
 
 pub each_take_more : {X : Type 0} (P : X → Type 0) (xs : List X) (i : ℕ) (d : X) → i < length xs → AllByRecursion P (take i xs) → P (get_or xs i d) → AllByRecursion P (take (i + 1) xs)
 each_take_more P xs i d h all last = subst (AllByRecursion P) (sym (take_more xs i d h)) (each_push P (take i xs) (get_or xs i d) all last)
-
-pub each_at : {X : Type 0} (P : X → Type 0) (xs : List X) (i : ℕ) (d : X) → i < length xs → AllByRecursion P xs → P (get_or xs i d)
-each_at P [] i d h all = absurd (omega arith)
-each_at P (x ∷ xs) zero d h all = all.0
-each_at P (x ∷ xs) (suc i) d h all = each_at P xs i d (omega arith) all.1
 
 pub each_below : {X : Type 0} (P : X → Type 0) (xs : List X) (k i : ℕ) (d : X) → i < k → i < length xs → AllByRecursion P (take k xs) → P (get_or xs i d)
 each_below P [] k i d h l all = absurd (omega arith)

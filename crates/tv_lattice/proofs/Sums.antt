@@ -2,18 +2,13 @@
 --
 -- degree_from hs v k == the degree of the entries from place k on
 -- sums_from u v k    == the sums of the entries from place k on
-use Rattle.std.specs.Prelude.{◌≡◌, ℕ, zero, suc, ◌+◌, ◌<◌, ◌≤◌, ℤ, pos, ◌+ℤ◌, ◌*ℤ◌, List, [], ◌∷◌, ◌++◌, length, drop, unsigned_abs}
+use Rattle.std.specs.Prelude.{◌≡◌, ℕ, suc, ◌+◌, ◌<◌, ◌≤◌, ℤ, pos, ◌+ℤ◌, ◌*ℤ◌, List, [], ◌∷◌, ◌++◌, length, drop, unsigned_abs}
 use Rattle.std.proofs.Common.{refl, sym, ap, ◌∙◌, get_or, drop-cons, append_assoc, append-nil, arith, add-one, mul-le-mul, w64, FitsSigned}
 use Rattle.std.specs.List.{AllByRecursion}
+use Rattle.std.proofs.lemmas.List.{drop_all}
 use Rattle.std.proofs.lemmas.Int.{ints, unsigned_abs-mul, fits_signed_from_abs}
 use Rattle.tv_spec_plane.specs.Web.{degree_of}
 use Rattle.tv_lattice.specs.Classes.{IsEntry, IsEntries, entry_sums}
-
-drop-all : (u : List ℤ) (i : ℕ) → length u ≤ i → drop i u ≡ []
-drop-all [] zero l = refl
-drop-all [] (suc i) l = refl
-drop-all (x ∷ u) zero l = absurd (omega arith)
-drop-all (x ∷ u) (suc i) l = drop-all u i (omega arith)
 
 unfoldable pub degree_from : List ℤ → List ℤ → ℕ → ℤ
 degree_from hs v k = degree_of (drop k hs) (drop k v)
@@ -30,7 +25,7 @@ degree_from-next hs v k total more whole h l e was =
 
 pub degree_from-end : (hs v : List ℤ) (k : ℕ) → length hs ≤ k → degree_from hs v k ≡ pos 0
 unfolding degree_from
-degree_from-end hs v k h = ap (λ us. degree_of us (drop k v)) (drop-all hs k h)
+degree_from-end hs v k h = ap (λ us. degree_of us (drop k v)) (drop_all k hs h)
 
 unfoldable pub sums_from : List ℤ → List ℤ → ℕ → List ℤ
 sums_from u v k = entry_sums (drop k u) (drop k v)
@@ -48,7 +43,7 @@ sums_from-next u v k done more whole h l e was =
 pub sums_from-end : (u v : List ℤ) (k : ℕ) (done whole : List ℤ) → length u ≤ k → length v ≤ k → done ++ sums_from u v k ≡ whole → done ≡ whole
 unfolding sums_from
 sums_from-end u v k done whole h l was =
-    let none : entry_sums (drop k u) (drop k v) ≡ [] = rw (drop-all u k h, drop-all v k l) refl in
+    let none : entry_sums (drop k u) (drop k v) ≡ [] = rw (drop_all k u h, drop_all k v l) refl in
     sym (append-nil done) ∙ (sym (ap (λ s. done ++ s) none) ∙ was)
 
 pub product-limit : (h e : ℤ) → unsigned_abs h ≤ 1000000 → unsigned_abs e ≤ 100000000000 → unsigned_abs (h *ℤ e) ≤ 100000000000000000

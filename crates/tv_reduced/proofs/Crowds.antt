@@ -9,7 +9,7 @@ use Rattle.tv_ring.specs.Operations.{Operations, limit}
 use Rattle.tv_spec_plane.specs.Web.{Web, compact, degree_of}
 use Rattle.tv_spec_boxes.specs.Assignments.{no_legs, all_legs, zeros, class_of, weight, assignments, same_vector, assignments_of}
 use Rattle.tv_spec_boxes.specs.Numbers.{lowest, box_bound, crowd_on, sum_of, crowd}
-use Rattle.tv_gluing.proofs.Degrees.{same_vector-eq}
+use Rattle.tv_spec_boxes.proofs.Vectors.{same_vector_tells}
 use Rattle.tv_reduced_laws.proofs.ZeroClass.{nothing, assignments-none, class_on-nothing}
 use Rattle.tv_reduced_laws.proofs.ZeroCrowd.{zero_crowd}
 use Rattle.tv_glue.specs.Faults.{IsCrowded}
@@ -38,7 +38,7 @@ crowded_later r w d n m v h wide = step (same_vector (class_of w (nothing (compa
   where
     step : (b : Bool) → same_vector (class_of w (nothing (compact w))) v ≡ b → limit < crowd w (no_legs w) d n v * r.size r.unit
     step true e =
-        let zero_class : v ≡ zeros (length w.points) = sym (same_vector-eq (class_of w (nothing (compact w))) v e) ∙ class_on-nothing w (compact w) in
+        let zero_class : v ≡ zeros (length w.points) = sym (same_vector_tells (class_of w (nothing (compact w))) v e) ∙ class_on-nothing w (compact w) in
         let less = zero_crowd w d n m h in
         let at_zero : limit < crowd w (no_legs w) 0 m (zeros (length w.points)) * r.size r.unit = rw zero_class at wide in
         let grown = mul-le (crowd w (no_legs w) 0 m (zeros (length w.points))) (r.size r.unit) (crowd w (no_legs w) d n (zeros (length w.points))) (r.size r.unit) less (omega arith) in

@@ -20,8 +20,8 @@ use Rattle.tv_spec_boxes.specs.Classes.{IsClass}
 use Rattle.tv_spec_boxes.specs.Numbers.{lowest}
 use Rattle.tv_spec_series.specs.Families.{Row, Family, classes, find, IsRow, IsFamily}
 use Rattle.tv_spec_series.specs.Reduced.{full_coefficient, zero_coefficient, quotient_size}
-use Rattle.tv_gluing.proofs.Lists.{all-onto, all-both}
-use Rattle.tv_gluing.proofs.Degrees.{same_vector-eq}
+use Rattle.tv_lemmas.proofs.Members.{all-onto, all-both}
+use Rattle.tv_spec_boxes.proofs.Vectors.{same_vector_tells}
 use Rattle.tv_graded.specs.Calls.{IsDividedWide}
 use Rattle.tv_glue_laws.specs.Full.{IsFullRow, IsFull}
 use Rattle.tv_reduced_laws.specs.Families.{IsDivisor}
@@ -69,7 +69,7 @@ found_has P [] v x e all = cc
 found_has P (y ∷ rows) v x e all = step (same_vector y.class v) refl e (λ h. found_has P rows v x h all.1)
   where
     step : (b : Bool) → same_vector y.class v ≡ b → (if b then Some y else find v rows) ≡ Some x → (find v rows ≡ Some x → (x.class ≡ v) × P x) → (x.class ≡ v) × P x
-    step true s h rest = let same : y ≡ x = cc in rw (← same) (same_vector-eq y.class v s, all.0)
+    step true s h rest = let same : y ≡ x = cc in rw (← same) (same_vector_tells y.class v s, all.0)
     step false s h rest = rest h
 
 module _ {A : Type 0} {IsValue : A → Type 0} {r : Operations A} (laws : RingLaws IsValue r) (sizes : SizeLaws IsValue r) (w : Web) (d : ℕ) (n : ℤ) (b : Terms A) (graded : IsGraded w) (diagrams : AllByRecursion IsDiagram (no_legs w)) (starts : HasUnit (zero_coefficient w (no_legs w))) (values : HasValues IsValue r b) (divisor : IsDivisor r w (no_legs w) b) where

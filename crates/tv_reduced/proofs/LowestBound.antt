@@ -19,7 +19,7 @@ use Rattle.tv_degrees.proofs.Bounds.{normal_a-small, normal_b-small}
 use Rattle.tv_spec_boxes.specs.Assignments.{Rows, Assignment, no_legs, rows_at, legs_of, overlaps_of, assignments}
 use Rattle.tv_spec_boxes.specs.Numbers.{falls_on, low_of, least, lowest}
 use Rattle.tv_gluing.specs.Ways.{IsListed, IsAtMost}
-use Rattle.tv_gluing.proofs.Lists.{all-both, all-onto, all-members, all-everywhere}
+use Rattle.tv_lemmas.proofs.Members.{all-both, all-onto, all-members, all-everywhere}
 use Rattle.tv_gluing.proofs.Degrees.{assignments_listed}
 use Rattle.tv_assignment.specs.Terms.{cells_of}
 use Rattle.tv_assignment.proofs.Bounded.{edge_cost-small, overlap_cost-small, extent-small}

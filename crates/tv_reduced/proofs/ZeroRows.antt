@@ -7,7 +7,7 @@ use Rattle.tv_spec_plane.specs.Web.{Web, compact}
 use Rattle.tv_spec_boxes.specs.Assignments.{zeros, class_of, assignments, no_legs}
 use Rattle.tv_spec_boxes.specs.Classes.{IsClass}
 use Rattle.tv_spec_series.specs.Families.{Row, Family, classes}
-use Rattle.tv_gluing.proofs.Lists.{all-contains, all-members}
+use Rattle.tv_lemmas.proofs.Members.{all-contains, all-members}
 use Rattle.tv_glue_laws.specs.Full.{IsFullRow, IsFull}
 use Rattle.tv_reduced_laws.proofs.ZeroClass.{nothing, assignments-none, class_on-nothing}
 

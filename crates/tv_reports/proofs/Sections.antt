@@ -130,10 +130,6 @@ terms_from-append low (x ∷ xs) ys =
     by true e = e
     by false e = ap (λ ts. term low x ∷ ts) e
 
-pub all-append : {A : Type 0} (P : A → Type 0) (xs ys : List A) → AllByRecursion P xs → AllByRecursion P ys → AllByRecursion P (xs ++ ys)
-all-append P [] ys h k = k
-all-append P (x ∷ xs) ys h k = (h.0, all-append P xs ys h.1 k)
-
 -- what is kept after the exponents below n
 pub record AreKept (t : Terms ℤ) (n : ℤ) (ts : List Term) : Type 0 where
   pub from_low : t.low ≤ℤ n

@@ -1,5 +1,5 @@
 -- Completeness follows from the answers: what is accepted isn't refused, and what is a command has no place outside.
-use Rattle.std.proofs.Common.{◌≡◌, ◌⊎◌, inl, inr, ℕ, ◌≤◌, ℤ, pos, negsuc, List, [], ◌∷◌, ◌++◌, length, Option, Some, None, refl, ap, sym, ◌∙◌, arith, subst, length-append}
+use Rattle.std.proofs.Common.{◌≡◌, ◌⊎◌, inl, inr, ℕ, ◌≤◌, ℤ, pos, negsuc, List, [], ◌∷◌, ◌++◌, length, Option, Some, None, refl, ap, sym, ◌∙◌, arith, subst, length-append, append-nil}
 use Rattle.std.specs.Io.KnownBytes.{Consumes, IsAtEnd}
 use Rattle.std.proofs.lemmas.Int.{ints}
 use Rattle.std.proofs.lemmas.Bool.{true≢false}
@@ -76,11 +76,7 @@ same_web bytes v w a b = a.turned ∙ (ap turned_web (Spells-unique (word_lines 
 all_of_told : (before after : Option (List ℕ)) (told bytes : List ℕ) → before ≡ Some told → Consumes before after bytes → IsAtEnd after → told ≡ bytes
 all_of_told None after told bytes e c n = cc
 all_of_told (Some xs) None told bytes e c n = absurd c
-all_of_told (Some xs) (Some ys) told bytes e c n = let same : xs ≡ told = cc in sym same ∙ (c ∙ (ap (λ zs. bytes ++ zs) n ∙ append_nil bytes))
-  where
-    append_nil : (xs : List ℕ) → xs ++ [] ≡ xs
-    append_nil [] = refl
-    append_nil (x ∷ xs) = ap (λ ys. x ∷ ys) (append_nil xs)
+all_of_told (Some xs) (Some ys) told bytes e c n = let same : xs ≡ told = cc in sym same ∙ (c ∙ (ap (λ zs. bytes ++ zs) n ∙ append-nil bytes))
 
 told_bytes : (io : Inputs) (told bytes : List ℕ) → io.before ≡ Some told → Gave io bytes → told ≡ bytes
 told_bytes io told bytes e g = all_of_told io.before io.after told bytes e g.taken g.ended

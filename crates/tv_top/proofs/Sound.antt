@@ -4,7 +4,7 @@ use Rattle.std.proofs.lemmas.Int.{ints}
 use Rattle.tv_spec_plane.specs.declared.records.Triple.{Triple}
 use Rattle.tv_spec_plane.specs.Plane.{Point}
 use Rattle.tv_spec_plane.specs.Web.{Web, compact, edge_degree}
-use Rattle.tv_lattice.proofs.Each.{each_at}
+use Rattle.tv_lemmas.proofs.Members.{all-at}
 use Rattle.tv_lattice.specs.Limits.{IsWithinLimits}
 use Rattle.tv_lattice.specs.declared.fault.InputError.{InputError}
 use Rattle.tv_lattice.specs.declared.fault.InputError.TheVariants.{Fault, Memory}
@@ -101,7 +101,7 @@ accepted_or_refused bytes file (Err (Fault (Degree a b d))) j t h = record { web
 -- a web whose degrees are positive has no first edge whose degree is not
 pub graded_or_low : (w : Web) (k a b : ℕ) (z : ℤ) → IsGraded w → IsFirstLow w k a b z → ⊥
 graded_or_low w k a b z h x =
-    let high : pos 0 <ℤ edge_degree w (edge_at w k) = each_at (HasDegree w) (compact w) k no_edge x.listed h in
+    let high : pos 0 <ℤ edge_degree w (edge_at w k) = all-at (HasDegree w) (compact w) no_edge h k x.listed in
     let low : edge_degree w (edge_at w k) ≤ℤ pos 0 = subst (λ d. d ≤ℤ pos 0) x.degree x.low in
     absurd (apart (edge_degree w (edge_at w k)) high low)
   where

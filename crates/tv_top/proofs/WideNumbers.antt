@@ -9,8 +9,9 @@ use Rattle.tv_spec_boxes.specs.Assignments.{Rows, no_legs, class_of, assignments
 use Rattle.tv_spec_boxes.specs.Classes.{IsClass}
 use Rattle.tv_spec_boxes.specs.Numbers.{sum_of, crowd}
 use Rattle.tv_degrees.specs.Grades.{IsGraded}
-use Rattle.tv_gluing.proofs.Lists.{all-filter, all-members}
-use Rattle.tv_gluing.proofs.Degrees.{assignments_by_degree, same_vector-eq}
+use Rattle.tv_lemmas.proofs.Members.{all-filter, all-members}
+use Rattle.tv_spec_boxes.proofs.Vectors.{same_vector_tells}
+use Rattle.tv_gluing.proofs.Degrees.{assignments_by_degree}
 use Rattle.tv_gluing.proofs.Crowds.{crowd_is}
 use Rattle.tv_reduced.specs.Faults.{IsSpreadOut as IsWideSpread}
 use Rattle.tv_text.specs.declared.series.Kind.TheVariants.{Full, Reduced}
@@ -41,7 +42,7 @@ crowd-class w d n v graded h =
     let within = within_degrees (degree_of w.heights v) d (crowd-test w (no_legs w) d n v _ refl h) in
     let same : assignments_of w v ≡ _ = assignments_by_degree w d v graded within.1 in
     let all : AllByRecursion (λ _. IsClass w d v) (assignments_of w v) =
-    rw same (all-filter (Contains (assignments w d)) (λ _. IsClass w d v) (λ a. same_vector (class_of w a) v) (λ a among e. record { witness = a; listed = among; same = same_vector-eq (class_of w a) v e }) (assignments w d) (all-members (assignments w d))) in
+    rw same (all-filter (Contains (assignments w d)) (λ _. IsClass w d v) (λ a. same_vector (class_of w a) v) (λ a among e. record { witness = a; listed = among; same = same_vector_tells (class_of w a) v e }) (assignments w d) (all-members (assignments w d))) in
     let some = rw (crowd_is w (no_legs w) d n v within.0 within.1) at h in
     some_of _ (assignments_of w v) some all
 
