@@ -5,7 +5,7 @@ use Rattle.std.proofs.lemmas.Bool.{cases_eq}
 use Rattle.tv_lemmas.proofs.Signs.{sign}
 use Rattle.tv_spec_plane.specs.Plane.{Point, at, turn}
 use Rattle.tv_hull.specs.Points.{IsFlat}
-use Rattle.tv_tiling.specs.Points.{IsSpread}
+use Rattle.tv_tiling.specs.Points.{SpansPlane}
 
 -- what holds of each number below n, or some number below n where the other holds
 each_or_some : (P Q : ℕ → Type 0) → ((k : ℕ) → P k ⊎ Q k) → (n : ℕ) → ((k : ℕ) → k < n → P k) ⊎ ((k : ℕ) × (k < n) × Q k)
@@ -41,7 +41,7 @@ point : (ps : List Point) (i : ℕ) → FlatPoint ps i ⊎ SpreadPoint ps i
 unfolding FlatPoint SpreadPoint
 point ps i = each_or_some (FlatPair ps i) (SpreadPair ps i) (pair ps i) (length ps)
 
-pub not_flat-spread : (ps : List Point) → (IsFlat ps → ⊥) → IsSpread ps
+pub not_flat-spread : (ps : List Point) → (IsFlat ps → ⊥) → SpansPlane ps
 unfolding FlatPair SpreadPair FlatPoint SpreadPoint
 not_flat-spread ps not_flat = elim (each_or_some (FlatPoint ps) (SpreadPoint ps) (point ps) (length ps)) [
   | inl flat ↦ absurd (not_flat (λ i j k li lj lk. flat i li j lj k lk))

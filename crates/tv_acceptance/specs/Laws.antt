@@ -1,7 +1,7 @@
 -- What the checks of triangles mean.
 --
--- PassingTrianglesTile == what passes the checks is a triangulation that tiles
--- TilingTrianglesPass  == what tiles fails no check
+-- PassingTrianglesTile == what passes the checks, with coordinates within their limit, is a triangulation that tiles
+-- TilingTrianglesPass  == what tiles, with such coordinates, fails no check
 -- OneTriangleIsACorner == one triangle that passes has no listed point beside its own three
 use Rattle.std.specs.Prelude.{◌≡◌, List, [], ◌∷◌, length}
 use Rattle.std.specs.List.{AllByRecursion}

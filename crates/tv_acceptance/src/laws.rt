@@ -2,13 +2,13 @@
 
 ghost use Rattle.tv_acceptance.specs.Laws.{PassingTrianglesTile, TilingTrianglesPass, OneTriangleIsACorner};
 
-/// Triangles that pass every check are unimodular triangles over distinct points that aren't on one line, and they tile
-/// the hull.
+/// Where coordinates are at most 100 in absolute value, triangles that pass every check are unimodular triangles over
+/// distinct points that aren't on one line, and they tile the hull.
 pub fn passing_triangles_tile()
     ensures { PassingTrianglesTile }
 {}
 
-/// Conversely, such triangles fail no check.
+/// Conversely, such triangles over such points fail no check.
 pub fn tiling_triangles_pass()
     ensures { TilingTrianglesPass }
 {}

@@ -2,7 +2,8 @@
 
 ghost use Rattle.tv_edge_rule_laws.specs.Laws.{TilingHasEdgeRule, TiledConfigurationSign};
 
-/// Where triangles tile, the two triangles of each compact edge are unimodular and lie on its two sides.
+/// Where coordinates are at most 100 in absolute value and triangles tile, the two triangles of each compact edge are
+/// unimodular and lie on its two sides.
 pub fn tiling_has_edge_rule()
     ensures { TilingHasEdgeRule }
 {}

@@ -8,7 +8,7 @@ use Rattle.tv_spec_plane.specs.Tiling.{Tiles}
 use Rattle.tv_spec_hull.specs.Members.{Among}
 use Rattle.tv_spec_hull.specs.Hull.{IsLess, IsHull}
 use Rattle.tv_spec_hull.specs.Edges.{AreTurned, IsMatched}
-use Rattle.tv_tiling.specs.Points.{AreSmall, IsSpread}
+use Rattle.tv_tiling.specs.Points.{AreSmall, SpansPlane}
 use Rattle.tv_tiling.proofs.Heights.{not-less}
 use Rattle.tv_tiling.proofs.Matched.{matched_triangles_tile}
 
@@ -122,7 +122,7 @@ hull_is_hull = record {
 points_are_small : AreSmall points
 points_are_small = (record { x = omega arith; y = omega arith }, (record { x = omega arith; y = omega arith }, (record { x = omega arith; y = omega arith }, tt)))
 
-points_are_spread : IsSpread points
+points_are_spread : SpansPlane points
 unfolding turn
 points_are_spread = record { a = 0; b = 1; c = 2; a_listed = omega arith; b_listed = omega arith; c_listed = omega arith; turned = λ e. omega (arith, ints) }
 

@@ -10,7 +10,7 @@ use Rattle.tv_spec_hull.specs.Hull.{IsHull, IsRound, IsLess}
 use Rattle.tv_spec_hull.specs.Edges.{sides, edges, back, IsTurned, AreTurned}
 use Rattle.tv_lemmas.proofs.Signs.{same-by_order, sign, positive, positive-true, positive-false, true-positive}
 use Rattle.tv_lemmas.proofs.Sums.{sum_of, sum_of-append, sum_of-flat_map, sum_of-all, bit, bits-one}
-use Rattle.tv_tiling.specs.Points.{AreSmall, IsSpread}
+use Rattle.tv_tiling.specs.Points.{AreSmall, SpansPlane}
 use Rattle.tv_tiling.specs.Laws.{MatchedTrianglesTile}
 use Rattle.tv_spec_hull.proofs.Members.{append-among_left, append-among_right}
 use Rattle.tv_tiling.proofs.Cancels.{sum_of-cancels}
@@ -82,7 +82,7 @@ over-rises ps p i j positive_k less e =
     positive-true (lift p (at ps j)) (omega (arith, ints))
 
 -- the ends of the climb are apart, since the points are not all on one level
-ends-apart : (ps : List Point) (hull : List Segment) → AreSmall ps → IsSpread ps → (r : IsRound ps hull) → r.least ≡ r.greatest → ⊥
+ends-apart : (ps : List Point) (hull : List Segment) → AreSmall ps → SpansPlane ps → (r : IsRound ps hull) → r.least ≡ r.greatest → ⊥
 ends-apart ps hull small spread r same =
     let level : (k : ℕ) → k < length ps → height (at ps k) ≡ height (at ps r.least) = λ k h. same-by_order (height (at ps k)) (height (at ps r.least))
     (λ less. r.first.least k h (height-less _ _ (at-small ps small k) (at-small ps small r.least) less))

@@ -7,7 +7,7 @@ use Rattle.tv_spec_plane.specs.Plane.{Point, at, turn, Segment, IsHullSegment}
 use Rattle.tv_spec_plane.specs.Tiling.{Rational, side, triangle_at, IsHullPair, IsLeft}
 use Rattle.tv_spec_hull.specs.Members.{Among, Once}
 use Rattle.tv_spec_hull.specs.Edges.{sides, edges, back, IsTurned, AreTurned}
-use Rattle.tv_tiling.specs.Points.{IsSpread}
+use Rattle.tv_tiling.specs.Points.{SpansPlane}
 use Rattle.tv_lemmas.proofs.Members.{all-at}
 use Rattle.tv_tiling.proofs.Lists.{flat_map-among}
 use Rattle.tv_spec_hull.proofs.Turns.{turn-rotate}
@@ -17,7 +17,7 @@ pub turned-at : (ps : List Point) (ts : List Triple) → AreTurned ps ts → (i 
 turned-at ps ts turned i h = all-at (IsTurned ps) ts _ turned i h
 
 -- with a triangle the points are not all on a line
-pub turned-spread : (ps : List Point) (ts : List Triple) → 0 < length ts → AreTurned ps ts → IsSpread ps
+pub turned-spread : (ps : List Point) (ts : List Triple) → 0 < length ts → AreTurned ps ts → SpansPlane ps
 turned-spread ps ts some turned =
     let t = turned-at ps ts turned 0 some in
     record { a = (triangle_at ts 0).a; b = (triangle_at ts 0).b; c = (triangle_at ts 0).c; a_listed = t.listed.a; b_listed = t.listed.b; c_listed = t.listed.c; turned = λ e. omega (arith, ints, t.turned) }

@@ -3,7 +3,7 @@
 -- IsSmall p      == both coordinates are at most 100 in absolute value
 -- AreSmall ps    == all points are small
 -- AreDistinct ps == no point stands twice
--- IsSpread ps    == some three listed points are not on a line
+-- SpansPlane ps  == some three listed points are not on a line
 use Rattle.std.specs.Prelude.{◌≡◌, ◌≢◌, ℕ, ◌<◌, ◌≤◌, pos, List, length, unsigned_abs}
 use Rattle.std.specs.List.{AllByRecursion}
 use Rattle.tv_spec_plane.specs.Plane.{Point, at, turn}
@@ -18,7 +18,7 @@ AreSmall ps = AllByRecursion IsSmall ps
 abbrev pub AreDistinct : List Point → Type 0
 AreDistinct ps = (i j : ℕ) → i < length ps → j < length ps → at ps i ≡ at ps j → i ≡ j
 
-pub record IsSpread (ps : List Point) : Type 0 where
+pub record SpansPlane (ps : List Point) : Type 0 where
   pub a : ℕ
   pub b : ℕ
   pub c : ℕ

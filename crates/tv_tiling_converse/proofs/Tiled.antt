@@ -8,7 +8,7 @@ use Rattle.tv_spec_plane.specs.Tiling.{triangle_at, Tiles}
 use Rattle.tv_spec_hull.specs.Members.{Among}
 use Rattle.tv_spec_hull.specs.Edges.{sides, edges, AreTurned}
 use Rattle.tv_lemmas.proofs.Signs.{nonneg-positive, sign}
-use Rattle.tv_tiling.specs.Points.{AreSmall, AreDistinct, IsSpread}
+use Rattle.tv_tiling.specs.Points.{AreSmall, AreDistinct, SpansPlane}
 use Rattle.tv_tiling_converse.specs.Laws.{TilingTrianglesMatch}
 use Rattle.tv_tiling.proofs.Lists.{among-flat_map}
 use Rattle.tv_spec_hull.proofs.Turns.{turn-rotate, turn-exchange}
@@ -22,7 +22,7 @@ use Rattle.tv_tiling_converse.proofs.Corners.{corner-nonneg, corner-same, spot-c
 use Rattle.tv_tiling_converse.proofs.Between.{turn-on_line, beyond-between}
 
 -- some listed point is strictly left of a hull segment
-hull-third : (ps : List Point) → IsSpread ps → (a b : ℕ) → IsHullSegment ps a b → (c : ℕ) × (c < length ps) × (pos 0 <ℤ turn (at ps a) (at ps b) (at ps c))
+hull-third : (ps : List Point) → SpansPlane ps → (a b : ℕ) → IsHullSegment ps a b → (c : ℕ) × (c < length ps) × (pos 0 <ℤ turn (at ps a) (at ps b) (at ps c))
 hull-third ps r a b h = elim (sign (turn (at ps a) (at ps b) (at ps r.a))) [
   | inl less ↦ absurd (let n = h.left r.a r.a_listed in omega (arith, ints))
   | inr (inr more) ↦ (r.a, r.a_listed, more)
@@ -49,7 +49,7 @@ hull-corner ps a b e f h listed one out home =
       | inr (inr more) ↦ absurd (h.bare e listed (beyond-between ps a b e (turn (at ps f) (at ps a) (at ps b)) (turn-apart (at ps a) (at ps e) (at ps f) one) on line (omega (arith, ints))))
     ]
 
-pub outer-covered : (ps : List Point) (ts : List Triple) → AreSmall ps → AreDistinct ps → IsSpread ps → AreTurned ps ts → Tiles ps ts → (s : Segment) → IsHullSegment ps s.0 s.1 → Among s (edges ts)
+pub outer-covered : (ps : List Point) (ts : List Triple) → AreSmall ps → AreDistinct ps → SpansPlane ps → AreTurned ps ts → Tiles ps ts → (s : Segment) → IsHullSegment ps s.0 s.1 → Among s (edges ts)
 outer-covered ps ts small distinct spread turned tiles s h =
     let c = hull-third ps spread s.0 s.1 h in
     let place = place-third ps small s c.0 in

@@ -1,14 +1,15 @@
 -- What is true of tilings, as a law.
 --
--- TilingTrianglesMatch == the directed edges of triangles that tile the hull match
+-- TilingTrianglesMatch == over distinct small points, not all on a line, the directed edges of triangles that tile the hull
+--                         match
 use Rattle.std.specs.Prelude.{List}
 use Rattle.tv_spec_plane.specs.declared.records.Triple.{Triple}
 use Rattle.tv_spec_plane.specs.Plane.{Point, Segment}
 use Rattle.tv_spec_plane.specs.Tiling.{Tiles}
 use Rattle.tv_spec_hull.specs.Hull.{IsHull}
 use Rattle.tv_spec_hull.specs.Edges.{AreTurned, IsMatched}
-use Rattle.tv_tiling.specs.Points.{AreSmall, AreDistinct, IsSpread}
+use Rattle.tv_tiling.specs.Points.{AreSmall, AreDistinct, SpansPlane}
 
--- spread: two points alone are tiled by no triangles, but their two hull segments are no sides
+-- not all on a line: two points alone are tiled by no triangles, but their two hull segments are no sides
 abbrev pub TilingTrianglesMatch : Type 0
-TilingTrianglesMatch = (ps : List Point) (ts : List Triple) (hull : List Segment) → AreSmall ps → AreDistinct ps → IsSpread ps → IsHull ps hull → AreTurned ps ts → Tiles ps ts → IsMatched hull ts
+TilingTrianglesMatch = (ps : List Point) (ts : List Triple) (hull : List Segment) → AreSmall ps → AreDistinct ps → SpansPlane ps → IsHull ps hull → AreTurned ps ts → Tiles ps ts → IsMatched hull ts

@@ -2,8 +2,9 @@
 
 ghost use Rattle.tv_tiling_converse.specs.Laws.{TilingTrianglesMatch};
 
-/// Where unimodular triangles tile the hull of distinct points, their directed edges match: no edge stands twice, the
-/// back of each is an edge too or the edge is a hull segment, and each hull segment is an edge.
+/// For distinct points with coordinates of at most 100 in absolute value, not all on a line: where unimodular triangles
+/// tile the hull, their directed edges match, so that no edge stands twice, the back of each is an edge too or the edge is
+/// a hull segment, and each hull segment is an edge.
 pub fn tiling_triangles_match()
     ensures { TilingTrianglesMatch }
 {}

@@ -14,7 +14,7 @@ use Rattle.tv_triangulation.specs.Mesh.{IsTriangulated}
 use Rattle.tv_triangulation.specs.Turned.{turned}
 use Rattle.tv_triangulation.specs.Segments.{same_segment}
 use Rattle.tv_triangulation.specs.Checks.{AreListed, AreUnit, IsUnmatched, IsBare, IsListedIn, NoPair}
-use Rattle.tv_triangulation.specs.Faults.{IsSpread, IsMisfit, Fits, IsFirstFault}
+use Rattle.tv_triangulation.specs.Faults.{IsFullSet, IsMisfit, Fits, IsFirstFault}
 use Rattle.tv_triangulation.proofs.SegmentTests.{list_any-among, among-list_any}
 use Rattle.tv_triangulation.proofs.Turning.{turned-all}
 use Rattle.tv_triangulation.proofs.Earliest.{IsEarliest, earliest-pair}
@@ -59,7 +59,7 @@ misfit-outer ps hull h ts (Bare a b) misfit = (misfit.0, (λ c d fault. misfit.1
 misfit-outer ps hull h ts _ misfit = absurd misfit
 
 -- a first fault
-pub misfit-fault : (ps : List Point) (hull : List Segment) → IsHull ps hull → (ts : List Triple) → IsSpread ps → AreListed ps ts → AreUnit ps ts → (f : FileFault) → IsMisfit (IsListedIn hull) (turned ps ts) f → IsFirstFault ps ts f
+pub misfit-fault : (ps : List Point) (hull : List Segment) → IsHull ps hull → (ts : List Triple) → IsFullSet ps → AreListed ps ts → AreUnit ps ts → (f : FileFault) → IsMisfit (IsListedIn hull) (turned ps ts) f → IsFirstFault ps ts f
 misfit-fault ps hull h ts spread listed unit (Twice t u) misfit = ((spread, listed, unit), misfit-outer ps hull h (turned ps ts) (Twice t u) misfit)
 misfit-fault ps hull h ts spread listed unit (Unmatched a b) misfit = ((spread, listed, unit), misfit-outer ps hull h (turned ps ts) (Unmatched a b) misfit)
 misfit-fault ps hull h ts spread listed unit (Bare a b) misfit = ((spread, listed, unit), misfit-outer ps hull h (turned ps ts) (Bare a b) misfit)
@@ -91,7 +91,7 @@ covered_at hull ts fits s outer = elim (among_or_not s (edges ts)) [
 pub fits-matched : (ps : List Point) (hull : List Segment) (ts : List Triple) → AreTurned ps ts → Fits (IsListedIn hull) ts → IsMatched hull ts
 fits-matched ps hull ts turned fits = record { once = edges-once ps ts turned fits.twice; matched = matched_at hull ts fits; covered = covered_at hull ts fits }
 
-pub fits-triangulated : (ps : List Point) (hull : List Segment) (ts : List Triple) → IsHull ps hull → IsSpread ps → AreListed ps ts → AreUnit ps ts → Fits (IsListedIn hull) (turned ps ts) → IsTriangulated (record { points = ps; triangles = turned ps ts })
+pub fits-triangulated : (ps : List Point) (hull : List Segment) (ts : List Triple) → IsHull ps hull → IsFullSet ps → AreListed ps ts → AreUnit ps ts → Fits (IsListedIn hull) (turned ps ts) → IsTriangulated (record { points = ps; triangles = turned ps ts })
 fits-triangulated ps hull ts h spread listed unit fits = record {
   hull = hull;
   distinct = spread.0;

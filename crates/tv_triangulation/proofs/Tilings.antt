@@ -16,7 +16,7 @@ use Rattle.tv_spec_hull.specs.Hull.{IsHull}
 use Rattle.tv_spec_hull.specs.Edges.{sides, IsListed, IsMatched}
 use Rattle.tv_lemmas.proofs.Members.{all-at}
 use Rattle.tv_lemmas.proofs.Signs.{sign}
-use Rattle.tv_tiling.specs.Points.{AreSmall, IsSpread as IsSpreadOut}
+use Rattle.tv_tiling.specs.Points.{AreSmall, SpansPlane}
 use Rattle.tv_tiling.specs.Laws.{IsExchange}
 use Rattle.tv_tiling.proofs.Lists.{flat_map-once_apart}
 use Rattle.tv_tiling.proofs.Exchanges.{exchanged_triangles_tile}
@@ -28,7 +28,7 @@ use Rattle.tv_hull.proofs.Collinear.{flat-line}
 use Rattle.tv_triangulation.specs.Mesh.{Mesh, IsTriangulated}
 use Rattle.tv_triangulation.specs.Turned.{turn_of, turned_of, turned, IsUnit}
 use Rattle.tv_triangulation.specs.Checks.{AreListed, AreUnit}
-use Rattle.tv_triangulation.specs.Faults.{IsSpread, IsMisfit, IsFirstFault, IsAnswer, IsEarlyAnswer, IsAccepted}
+use Rattle.tv_triangulation.specs.Faults.{IsFullSet, IsMisfit, IsFirstFault, IsAnswer, IsEarlyAnswer, IsAccepted}
 use Rattle.tv_triangulation.proofs.Turning.{turned-all}
 
 -- ---- what the laws ask
@@ -58,7 +58,7 @@ lone-flat ps k few h =
 few_or_many : (n : ℕ) → (n ≤ 1) ⊎ (1 < n)
 few_or_many n = grind arith
 
-spread-points : (ps : List Point) → AllByRecursion HasCoordinates ps → IsSpread ps → IsSpreadOut ps
+spread-points : (ps : List Point) → AllByRecursion HasCoordinates ps → IsFullSet ps → SpansPlane ps
 spread-points ps small spread = elim (all_or_some (λ k. turn (at ps 0) (at ps 1) (at ps k)) (length ps)) [
   | inl all ↦ absurd (spread.1 (flat-line ps small spread.0 all))
   | inr some ↦ elim (few_or_many (length ps)) [
@@ -100,7 +100,7 @@ matched-misfit ps hull ts _ h matched misfit = misfit
 distinct-repeat : (ps : List Point) (i j : ℕ) → AreDistinct ps → IsRepeat ps i j → ⊥
 distinct-repeat ps i j distinct repeat = let same : i ≡ j = distinct i j (omega (arith, repeat.ordered, repeat.listed)) repeat.listed repeat.equal in omega (arith, repeat.ordered)
 
-module _ (ps : List Point) (ts : List Triple) (small : AllByRecursion HasCoordinates ps) (spread : IsSpread ps) (listed : AreListed ps ts) (unit : AreUnit ps ts) (tiles : Tiles ps ts) where
+module _ (ps : List Point) (ts : List Triple) (small : AllByRecursion HasCoordinates ps) (spread : IsFullSet ps) (listed : AreListed ps ts) (unit : AreUnit ps ts) (tiles : Tiles ps ts) where
   tiled-matched : (hull : List Segment) → IsHull ps hull → IsMatched hull (turned ps ts)
   tiled-matched hull h = tiling_triangles_match ps (turned ps ts) hull (small-points ps small) spread.0 (spread-points ps small spread) h (turned-all ps ts listed unit) ((tiles-turned ps ts).0 tiles)
 
@@ -123,7 +123,7 @@ early-answer ps ts (Fault Flat) fault = fault
 early-answer ps ts (Fault f) fault = absurd fault
 early-answer ps ts Memory fault = tt
 
-pub early-memory : (ps : List Point) (ts : List Triple) → IsSpread ps → AreListed ps ts → (e : InputError) → IsEarlyAnswer ps ts e → e ≡ Memory
+pub early-memory : (ps : List Point) (ts : List Triple) → IsFullSet ps → AreListed ps ts → (e : InputError) → IsEarlyAnswer ps ts e → e ≡ Memory
 early-memory ps ts spread listed (Fault (Repeated i j)) fault = absurd (distinct-repeat ps i j spread.0 fault.second.holds)
 early-memory ps ts spread listed (Fault (Index t)) fault = absurd (fault.1.2 (all-at (IsListed ps) ts no_triple listed t fault.1.0))
 early-memory ps ts spread listed (Fault Flat) fault = absurd (spread.1 fault.2)

@@ -1,7 +1,7 @@
 -- The first check of points and triangles that fails, and what passes all of them.
 --
--- IsSpread ps          == the points are distinct and not all on one line
--- AreSound ps ts       == the points are spread, and the triangles name listed points and are unimodular
+-- IsFullSet ps         == the points are distinct and not all on one line
+-- AreSound ps ts       == such points, and triangles that name listed points and are unimodular
 -- IsMisfit IsOuter ts f == f is the first fault of the edges of turned triangles: a common edge, an edge without its
 --                          back that is not outer, an outer segment that is no edge
 -- Fits IsOuter ts      == there is no such fault
@@ -24,11 +24,11 @@ use Rattle.tv_triangulation.specs.Mesh.{Mesh, IsTriangulated}
 use Rattle.tv_triangulation.specs.Turned.{doubled_of, turned, IsUnit}
 use Rattle.tv_triangulation.specs.Checks.{IsFirstNot, AreListed, AreUnit, IsTwice, IsUnmatched, IsBare, NoPair}
 
-abbrev pub IsSpread : List Point → Type 0
-IsSpread ps = AreDistinct ps × (IsFlat ps → ⊥)
+abbrev pub IsFullSet : List Point → Type 0
+IsFullSet ps = AreDistinct ps × (IsFlat ps → ⊥)
 
 abbrev pub AreSound : List Point → List Triple → Type 0
-AreSound ps ts = IsSpread ps × AreListed ps ts × AreUnit ps ts
+AreSound ps ts = IsFullSet ps × AreListed ps ts × AreUnit ps ts
 
 abbrev pub IsMisfit : (ℕ → ℕ → Type 0) → List Triple → FileFault → Type 0
 IsMisfit IsOuter ts (Twice t u) = IsFirstPair (IsTwice ts) t u
@@ -45,7 +45,7 @@ abbrev pub IsFirstFault : List Point → List Triple → FileFault → Type 0
 IsFirstFault ps ts (Repeated i j) = IsFirstPair (IsRepeat ps) i j
 IsFirstFault ps ts (Index t) = AreDistinct ps × IsFirstNot (IsListed ps) ts t
 IsFirstFault ps ts Flat = AreDistinct ps × AreListed ps ts × IsFlat ps
-IsFirstFault ps ts (Area t doubled) = IsSpread ps × AreListed ps ts × IsFirstNot (IsUnit ps) ts t × (doubled ≡ pos (doubled_of ps (triangle_at ts t)))
+IsFirstFault ps ts (Area t doubled) = IsFullSet ps × AreListed ps ts × IsFirstNot (IsUnit ps) ts t × (doubled ≡ pos (doubled_of ps (triangle_at ts t)))
 IsFirstFault ps ts f = AreSound ps ts × IsMisfit (IsHullSegment ps) (turned ps ts) f
 
 abbrev pub IsAnswer : List Point → List Triple → InputError → Type 0

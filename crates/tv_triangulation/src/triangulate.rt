@@ -4,7 +4,7 @@ ghost use Rattle.std.specs.Prelude.{◌≡◌, ◌≤◌, length, IsOkUnless, Ma
 ghost use Rattle.tv_spec_plane.specs.Tiling.{Tiles};
 ghost use Rattle.tv_spec_hull.specs.Hull.{IsHull};
 ghost use Rattle.tv_triangulation.specs.Checks.{AreListed};
-ghost use Rattle.tv_triangulation.specs.Faults.{IsSpread, AreSound, IsAnswer, IsEarlyAnswer, IsAccepted};
+ghost use Rattle.tv_triangulation.specs.Faults.{IsFullSet, AreSound, IsAnswer, IsEarlyAnswer, IsAccepted};
 
 use crate::area::first_uneven;
 use crate::edges::edges_of;
@@ -50,7 +50,7 @@ fn fitted(
     requires points { length points.now ≤ 64 }
     requires triangles { length triangles.now ≤ 128 }
     requires hull { IsHull points.now hull.now }
-    requires spread { IsSpread points.now }
+    requires spread { IsFullSet points.now }
     requires listed { AreListed points.now triangles.now }
     ensures { MatchResult result (IsAccepted points.now triangles.now) (IsAnswer points.now triangles.now) }
 {
@@ -74,7 +74,7 @@ fn hull_of(
 ) -> Result<Vec<(u32, u32)>, InputError>
     requires points { length points.now ≤ 64 }
     requires triangles { length triangles.now ≤ 128 }
-    ensures { MatchResult result (λ h. IsHull points.now h.items × IsSpread points.now × AreListed points.now triangles.now) (IsEarlyAnswer points.now triangles.now) }
+    ensures { MatchResult result (λ h. IsHull points.now h.items × IsFullSet points.now × AreListed points.now triangles.now) (IsEarlyAnswer points.now triangles.now) }
 {
     match hull_segments(alloc, points) {
         Ok(hull) => match first_unlisted(points, triangles) {
