@@ -88,7 +88,7 @@ fn adds_opposite_points(rt: HostRuntime) -> Result<(), Fail> {
 #[test]
 fn adds_classes(rt: HostRuntime) -> Result<(), Fail> {
     let class = Class::new([-1, 1, 0].to_vec(rt.alloc())?);
-    let twice = class.plus(&class, rt.alloc())?;
+    let twice = class.plus(&class)?;
     assert_eq!(rt; twice.entries(), [-2, 2, 0].as_slice());
     Ok(())
 }

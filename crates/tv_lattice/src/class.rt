@@ -44,12 +44,12 @@ impl Class {
     }
 
     /// The sum entry by entry: the class of two curves together. It errs only for want of memory.
-    pub fn plus(&self, other: &Class, alloc: Global) -> Result<Class, AllocError>
+    pub fn plus(&self, other: &Class) -> Result<Class, AllocError>
         requires same_length { length self.now ≡ length other.now }
         requires small { AllByRecursion IsEntry (entry_sums self.now other.now) }
         ensures { IfOk result (λ class. class ≡ entry_sums self.now other.now) }
     {
-        let sums = sums_of(alloc, &self.entries, &other.entries)?;
+        let sums = sums_of(*self.entries.allocator(), &self.entries, &other.entries)?;
         Ok(Class { entries: sums })
     }
 

@@ -11,7 +11,7 @@ fn adds_classes(rt: HostRuntime) -> Result<(), Fail> {
     entries.push(1)?;
     entries.push(-1)?;
     let class = Class::new(entries);
-    let sum = class.plus(&class, rt.alloc())?;
+    let sum = class.plus(&class)?;
     let expected: [i64; 2] = [2, -2];
     assert_eq!(rt; sum.entries(), expected.as_slice());
     Ok(())
