@@ -26,12 +26,12 @@ use Rattle.std.specs.Prelude.{◌≡◌, ◌≢◌, ◌⊎◌, ℕ, zero, suc, �
 use Rattle.std.specs.List.{flat_map}
 use Rattle.std.specs.Ordering.{int_eq}
 use Rattle.tv_ring.specs.Whole.{wholes}
+use Rattle.tv_terms.specs.Terms.{natural}
 use Rattle.tv_spec_plane.specs.Web.{degree_of, numbers_from}
 use Rattle.tv_spec_boxes.specs.Assignments.{zeros, plus, same_vector}
 use Rattle.tv_spec_boxes.specs.Classes.{IsBefore}
 use Rattle.tv_spec_series.specs.Families.{Row, Family, classes, comes_before, coefficient_of, find}
 use Rattle.tv_katz.specs.Places.{place}
-use Rattle.tv_katz.specs.Product.{natural}
 use Rattle.tv_katz.specs.Katz.{Integer, katz}
 
 abbrev pub positive_classes : Family ℤ → List (List ℤ)

@@ -12,9 +12,10 @@
 -- katz is p         == (-1)^exponent times the coefficient of the product
 use Rattle.std.specs.Prelude.{ℕ, zero, suc, ◌+◌, ◌-◌, ◌*◌, ℤ, pos, ◌-ℤ◌, ◌*ℤ◌, max, unsigned_abs, List, [], ◌∷◌}
 use Rattle.std.specs.List.{flat_map}
+use Rattle.tv_terms.specs.Terms.{natural}
 use Rattle.tv_katz.specs.Binomials.{choose, power_sign}
 use Rattle.tv_katz.specs.Places.{Place}
-use Rattle.tv_katz.specs.Product.{Factor, natural, product}
+use Rattle.tv_katz.specs.Product.{Factor, product}
 
 pub record Integer : Type 0 where
   pub degree : ℤ

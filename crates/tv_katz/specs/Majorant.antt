@@ -10,10 +10,11 @@
 use Rattle.std.specs.Prelude.{ℕ, ◌+◌, ◌-◌, ◌*◌, ◌/◌, ℤ, pos, neg_ℤ, ◌+ℤ◌, max, unsigned_abs, int_le, List, [], ◌∷◌, map, length, nat_eq, cond, if◌then◌else◌, ◌&&◌}
 use Rattle.std.specs.Ordering.{int_eq}
 use Rattle.tv_ring.specs.Whole.{wholes}
+use Rattle.tv_terms.specs.Terms.{natural}
 use Rattle.tv_spec_plane.specs.Web.{degree_of}
 use Rattle.tv_spec_series.specs.Families.{Family, coefficient_of}
 use Rattle.tv_katz.specs.Places.{Place, place}
-use Rattle.tv_katz.specs.Product.{Factor, natural, product}
+use Rattle.tv_katz.specs.Product.{Factor, product}
 use Rattle.tv_katz.specs.Katz.{Integer, factors, enough}
 
 abbrev pub slope_of : Integer → ℕ

@@ -3,11 +3,11 @@
 -- Factor           == (1 - X)^power, with X at a place
 -- times most f rest p == the coefficient at p of the factor times the series rest, with powers of X up to most: a sum over
 --                     the powers of X
--- natural z        == z, or 0 where it is below 0
 -- product fs p     == the coefficient at p of the product of the factors: the sum over all choices of a power k for each
 --                     factor, such that the classes k times class add up to that of p and the exponents likewise, of the
 --                     products of (-1)^k binomial(power, k)
-use Rattle.std.specs.Prelude.{ℕ, suc, ℤ, pos, negsuc, ◌*ℤ◌, List, [], ◌∷◌}
+use Rattle.std.specs.Prelude.{ℕ, suc, ℤ, ◌*ℤ◌, List, [], ◌∷◌}
+use Rattle.tv_terms.specs.Terms.{natural}
 use Rattle.tv_katz.specs.Binomials.{power_at, sum_below}
 use Rattle.tv_katz.specs.Places.{Place, less_by, unit}
 
@@ -17,10 +17,6 @@ pub record Factor : Type 0 where
 
 unfoldable pub times : ℕ → Factor → (Place → ℤ) → Place → ℤ
 times most f rest p = sum_below (λ k. power_at f.power k *ℤ rest (less_by k p f.at)) (suc most)
-
-abbrev pub natural : ℤ → ℕ
-natural (pos n) = n
-natural (negsuc n) = 0
 
 -- a place of positive degree is taken off at most as often as the degree says
 unfoldable pub product : List Factor → Place → ℤ

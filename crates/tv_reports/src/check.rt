@@ -5,7 +5,8 @@ ghost use Rattle.std.specs.List.{flat_map};
 ghost use Rattle.tv_spec_plane.specs.Web.{compact};
 ghost use Rattle.tv_degrees.specs.Edges.{edge_at};
 ghost use Rattle.tv_spec_text.specs.Lines.{line_text};
-ghost use Rattle.tv_spec_text.specs.Checks.{title_line, count_line, head_lines, edge_words, edge_line, open_line, end_line, check_text};
+ghost use Rattle.tv_spec_text.specs.Checks.{title_line, count_line, head_lines, edge_words, edge_line, open_line, check_text};
+ghost use Rattle.tv_spec_text.specs.Files.{end_line};
 
 use std::alloc::{AllocError, Global};
 use tv_degrees::grade::GradedWeb;

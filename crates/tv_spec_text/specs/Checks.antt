@@ -6,7 +6,6 @@
 -- edge_words e m n g == the line of a compact edge of the normal degrees m and n and the degree g
 -- edge_line w e     == the line of that compact edge: its points, the opposite points, its normal degrees, its degree
 -- open_line o       == the line of an open edge: its points and its corner
--- end_line          == the last line
 -- check_lines w     == the lines of the report, with the edges in their order
 -- check_text w      == the text of those lines
 use Rattle.std.specs.Prelude.{ℕ, ℤ, pos, List, [], ◌∷◌, ◌++◌, length, map, codes}
@@ -14,6 +13,7 @@ use Rattle.tv_spec_plane.specs.declared.records.CompactEdge.{CompactEdge}
 use Rattle.tv_spec_plane.specs.declared.records.OuterEdge.{OuterEdge}
 use Rattle.tv_spec_plane.specs.Web.{Web, compact, outer, normal_a, normal_b, edge_degree}
 use Rattle.tv_spec_text.specs.Lines.{Word, Line, text_of, spelled}
+use Rattle.tv_spec_text.specs.Files.{end_line}
 
 abbrev pub title_line : Line
 title_line = codes "report" ∷ codes "check" ∷ []
@@ -32,9 +32,6 @@ edge_line w e = edge_words e (normal_a w e) (normal_b w e) (edge_degree w e)
 
 abbrev pub open_line : OuterEdge → Line
 open_line o = codes "open" ∷ spelled (pos o.a) ∷ spelled (pos o.b) ∷ codes "corner" ∷ spelled (pos o.corner) ∷ []
-
-abbrev pub end_line : Line
-end_line = codes "end" ∷ []
 
 abbrev pub check_lines : Web → List Line
 check_lines w = head_lines w ++ (map (edge_line w) (compact w) ++ (map open_line (outer w) ++ (end_line ∷ [])))
