@@ -85,3 +85,20 @@ fn takes_the_costs(rt: HostRuntime) -> Result<(), Fail> {
     assert_eq!(rt; two.extent(), 2);
     Ok(())
 }
+
+// The overlap cost of one cell along y and these rows along z.
+fn beside_one_along_y(alloc: Global, rows: &[u32]) -> Result<i64, Fail> {
+    let legs = Legs {
+        along_x: Diagram::empty(alloc),
+        along_y: diagram(alloc, &[1])?,
+        along_z: diagram(alloc, rows)?,
+    };
+    Ok(overlap::overlap_cost(&legs))
+}
+
+#[test]
+fn tells_a_row_from_a_column(rt: HostRuntime) -> Result<(), Fail> {
+    assert_eq!(rt; beside_one_along_y(rt.alloc(), &[2])?, 2);
+    assert_eq!(rt; beside_one_along_y(rt.alloc(), &[1, 1])?, 1);
+    Ok(())
+}
