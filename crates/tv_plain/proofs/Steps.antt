@@ -1,6 +1,5 @@
 -- One step of the count: what is counted and what is left make the whole, before a cell is decided and after.
-use Rattle.std.proofs.Common.{◌≡◌, ℕ, ◌+◌, ◌-◌, ◌<◌, ◌≤◌, true, List, [], ◌∷◌, ◌++◌, length, arith, ◌∙◌, ap}
-use Rattle.std.specs.Prelude.{◌^◌, Result, Ok, Err, OnOk}
+use Rattle.std.proofs.Common.{◌≡◌, ℕ, ◌+◌, ◌-◌, ◌<◌, true, List, [], ◌∷◌, ◌++◌, length, arith, ◌∙◌, ap}
 use Rattle.tv_ring.specs.Operations.{Operations}
 use Rattle.tv_ring.specs.Sums.{times}
 use Rattle.tv_cells.specs.declared.cell.Cell.{Cell}

@@ -1,5 +1,5 @@
 -- Totals that are multiples of one in a ring, as they are counted up.
-use Rattle.std.proofs.Common.{◌≡◌, ℕ, ◌+◌, ◌*◌, ◌<◌, ◌≤◌, Bool, true, false, refl, sym, ap, ◌∙◌, arith, add-mul}
+use Rattle.std.proofs.Common.{◌≡◌, ℕ, ◌+◌, ◌*◌, ◌<◌, ◌≤◌, Bool, true, false, refl, sym, ◌∙◌, arith, add-mul}
 use Rattle.std.specs.Prelude.{cond}
 use Rattle.std.proofs.lemmas.Nat.{mul-le}
 use Rattle.tv_ring.specs.Operations.{Operations, RingLaws, SizeLaws, limit}

@@ -11,7 +11,7 @@ use Rattle.tv_spec_series.specs.Families.{Row, classes, coefficient, find, serie
 use Rattle.tv_spec_series.specs.Reduced.{IsReduced, full_coefficient, zero_coefficient}
 use Rattle.tv_spec_series.proofs.Order.{before_apart, before_strict, before_trans, rise_tail, first_before}
 use Rattle.tv_spec_series.proofs.Rows.{find-here, find-next}
-use Rattle.tv_gluing.proofs.Lists.{all-onto, all-contains, all-members}
+use Rattle.tv_lemmas.proofs.Members.{all-onto, all-contains, all-members}
 use Rattle.tv_reduced_laws.specs.Families.{IsReducedRow}
 use Rattle.tv_reduced_laws.specs.Laws.{ReducedIsOnly}
 use Rattle.tv_reduced_laws.proofs.Products.{only_quotient_is}

@@ -1,7 +1,6 @@
 -- The terms of a series, and what its section tells.
-use Rattle.std.proofs.Common.{◌≡◌, ◌≢◌, ℕ, zero, suc, ◌+◌, ◌-◌, ◌<◌, ◌≤◌, ℤ, pos, ◌+ℤ◌, ◌-ℤ◌, ◌≤ℤ◌, ◌<ℤ◌, List, [], ◌∷◌, ◌++◌, length, take, map, Some, Bool, true, false, if◌then◌else◌, inl, inr, refl, sym, ap, ◌∙◌, arith, subst}
+use Rattle.std.proofs.Common.{◌≡◌, ◌≢◌, ℕ, suc, ◌+◌, ◌-◌, ◌<◌, ◌≤◌, ℤ, pos, ◌+ℤ◌, ◌≤ℤ◌, ◌<ℤ◌, List, [], ◌∷◌, ◌++◌, length, take, map, Some, Bool, true, false, if◌then◌else◌, inl, inr, refl, sym, ap, ◌∙◌, arith, subst}
 use Rattle.std.proofs.lemmas.Int.{ints, by_lt_z}
-use Rattle.std.proofs.lemmas.Bool.Decides.{nat_tests}
 use Rattle.std.proofs.lemmas.List.{take_more, take_all, length-take-le, map-append}
 use Rattle.std.proofs.lemmas.Option.{slice_get_within, get_or_from_slice_get}
 use Rattle.std.specs.List.{AllByRecursion, slice_get}
@@ -11,7 +10,7 @@ use Rattle.tv_ring.specs.Sums.{at}
 use Rattle.tv_terms.specs.Terms.{Terms, above, upto}
 use Rattle.tv_terms.proofs.Exponents.{above_is, above_adds}
 use Rattle.tv_spec_text.specs.Reports.{Term, Section, Rises, IsAmong, IsTerm, AreTerms}
-use Rattle.tv_spec_series.specs.Families.{Row, Family, coefficient, IsFamily, IsRow}
+use Rattle.tv_spec_series.specs.Families.{Row, Family, coefficient, IsRow}
 use Rattle.tv_spec_series.proofs.Coefficients.{coefficient_below, coefficient_at}
 use Rattle.tv_reports.specs.Sections.{IsSmallTerm, terms_from, terms_of, section_of, TellsRow, SectionsTell}
 

@@ -1,10 +1,10 @@
 -- Words that spell no number between two others.
-use Rattle.std.proofs.Common.{◌≡◌, ◌≢◌, ℕ, suc, ◌^◌, ◌<◌, List, ◌∷◌, ℤ, pos, negsuc, ◌<ℤ◌, ◌≤ℤ◌, sym, ◌∙◌, arith, subst}
+use Rattle.std.proofs.Common.{◌≡◌, ◌≢◌, ◌^◌, ◌<◌, ℤ, pos, negsuc, ◌<ℤ◌, ◌≤ℤ◌, sym, ◌∙◌, arith, subst}
 use Rattle.std.proofs.lemmas.Int.{ints}
 use Rattle.std.proofs.lemmas.Fmt.{signed_decimal_injective}
 use lib.Signed.{mag}
 use Rattle.tv_spec_text.specs.Lines.{Word, spelled, IsNumber}
-use Rattle.tv_top.specs.Commands.{IsBetween, IsDegree}
+use Rattle.tv_top.specs.Commands.{IsBetween}
 
 -- what is between two numbers of at most nine digits has at most nine
 number_between : (low high z : ℤ) → IsNumber low → IsNumber high → low ≤ℤ z → z ≤ℤ high → IsNumber z

@@ -1,8 +1,6 @@
 -- What the checks of triangles, heights and degrees leave of a file and its web.
-use Rattle.std.proofs.Common.{◌≡◌, ◌≢◌, ℕ, ℤ, pos, ◌<ℤ◌, ◌≤ℤ◌, List, [], ◌∷◌, length, false, Result, Ok, Err, MatchResult, refl, ap, sym, ◌∙◌, arith, subst}
+use Rattle.std.proofs.Common.{◌≡◌, ◌≢◌, ℕ, ℤ, pos, ◌<ℤ◌, ◌≤ℤ◌, List, length, false, Result, Ok, Err, MatchResult, ap, sym, ◌∙◌, arith, subst}
 use Rattle.std.proofs.lemmas.Int.{ints}
-use Rattle.tv_spec_plane.specs.declared.records.Triple.{Triple}
-use Rattle.tv_spec_plane.specs.Plane.{Point}
 use Rattle.tv_spec_plane.specs.Web.{Web, compact, edge_degree}
 use Rattle.tv_lemmas.proofs.Members.{all-at}
 use Rattle.tv_lattice.specs.Limits.{IsWithinLimits}

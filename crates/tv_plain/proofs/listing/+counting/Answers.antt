@@ -1,11 +1,11 @@
-use Rattle.std.proofs.Common.{◌≡◌, ◌+◌, ◌-◌, ◌≤◌, ◌++◌, ◌∷◌, [], arith, refl, sym, ◌∙◌, ap}
+use Rattle.std.proofs.Common.{◌≡◌, ◌+◌, ◌-◌, ◌++◌, ◌∷◌, [], arith, refl, sym, ◌∙◌, ap}
 use Rattle.std.specs.Prelude.{cond}
 use Rattle.std.proofs.lemmas.Result.{err_from_is_err_and}
 use Rattle.tv_cells.specs.Extras.{is_extras}
 use Rattle.tv_plain.specs.Rest.{rest, enters, leaves_gap}
 use Rattle.tv_plain.proofs.Cuts.{rest-refused}
 use Rattle.tv_plain.proofs.Remaining.{rest-done, rest-step}
-use Rattle.tv_plain.proofs.Steps.{Step, IsSoFar, step-sum, step-rises, step-gap, step-end}
+use Rattle.tv_plain.proofs.Steps.{Step, step-sum, step-rises, step-gap, step-end}
 use Rattle.tv_plain.proofs.Tallied.{times-sum, part-wide, sum-wide}
 use Rattle.tv_plain.proofs.listing.+counting.Goals as goal
 

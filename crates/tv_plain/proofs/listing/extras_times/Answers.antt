@@ -1,4 +1,4 @@
-use Rattle.std.proofs.Common.{◌≡◌, ◌+◌, arith, ◌∙◌, ap}
+use Rattle.std.proofs.Common.{◌≡◌, ◌+◌, ◌∙◌, ap}
 use Rattle.tv_cells.specs.Extras.{count}
 use Rattle.tv_plain.specs.Rest.{rest}
 use Rattle.tv_plain.proofs.Steps.{start-rises, start-count}

@@ -1,4 +1,3 @@
-use Rattle.std.specs.Prelude.{IfOk}
 use Rattle.tv_plain.proofs.Tallied.{one-if, zero-if}
 use Rattle.tv_plain.proofs.listing.one_if.Goals as goal
 
