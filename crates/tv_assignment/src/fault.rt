@@ -3,11 +3,11 @@
 use std::alloc::{AllocError, AllocFailed};
 use thiserror::Error;
 
-/// The sets of boxes of a corner are too many, or want of memory.
+/// There are too many sets of boxes at the corners of an assignment, or want of memory.
 #[derive(Debug, Drop, Error)]
 pub enum PrepareFault {
-    /// The number of an assignment with a corner whose sets of boxes, of at most the number that is left, are too many.
-    #[error("a corner of assignment {0} has too many sets of boxes")]
+    /// The number of an assignment at whose corners there are too many sets of boxes.
+    #[error("there are too many sets of boxes at the corners of assignment {0}")]
     Wide(usize),
     /// There is no memory left.
     #[error("out of memory")]

@@ -17,7 +17,7 @@ use tv_ring::{Ring, RingFault};
 impl<C: Ring> Corners<C> {
     /// Computes the series of each triple of legs that a corner of these assignments has, with as many boxes as are left at
     /// `n` to any assignment that has it, so that it need not be computed again. What was computed stays kept, also on an
-    /// error. The clause says when it errs, and none says what is kept.
+    /// error. The clause gives the cause of Wide, and none says what is kept.
     pub fn prepare(
         &mut self,
         alloc: Global,

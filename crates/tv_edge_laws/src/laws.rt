@@ -8,14 +8,14 @@ pub fn edge_has_one_rule()
     ensures { EdgeRule }
 {}
 
-/// The entries of an edge's class at the points whose coordinates are both even add up to a number that is even exactly
-/// where the normal degree is.
+/// The entries of the class of an edge that has the rule, at the points whose coordinates are both even, add up to a number
+/// that is even exactly where its normal degree is.
 pub fn class_has_parity_of_normal_degree()
     ensures { ClassParity }
 {}
 
-/// The four points of an edge's two triangles show all four pairs of parities of x and y exactly where the normal degree
-/// is odd.
+/// The four points of the two triangles of an edge that has the rule show all four pairs of parities of x and y exactly
+/// where its normal degree is odd.
 pub fn four_points_show_odd_normal_degree()
     ensures { FourParities }
 {}

@@ -1,7 +1,7 @@
 -- Triangles that tile and the rule of edges, as laws.
 --
--- TilingHasEdgeRule      == where coordinates are within their limit and triangles tile, those of each compact edge are
---                           unimodular and lie on its two sides
+-- TilingHasEdgeRule      == where coordinates are within their limit and points and triangles are tiled, the triangles of
+--                           each compact edge lie on its two sides
 -- TiledConfigurationSign == in such a web the sign of a configuration is that of its class and Euler characteristic
 use Rattle.std.specs.Prelude.{◌≡◌, List}
 use Rattle.std.specs.List.{AllByRecursion}

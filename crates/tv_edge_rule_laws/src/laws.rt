@@ -2,8 +2,8 @@
 
 ghost use Rattle.tv_edge_rule_laws.specs.Laws.{TilingHasEdgeRule, TiledConfigurationSign};
 
-/// Where coordinates are at most 100 in absolute value and triangles tile, the two triangles of each compact edge are
-/// unimodular and lie on its two sides.
+/// Where unimodular triangles over distinct points tile, not all on a line and with coordinates of at most 100 in absolute
+/// value, the two triangles of each compact edge lie on its two sides.
 pub fn tiling_has_edge_rule()
     ensures { TilingHasEdgeRule }
 {}

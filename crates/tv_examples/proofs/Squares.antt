@@ -1,4 +1,5 @@
--- The point (1/2, 1/5) lies in both of two overlapping triangles of the square.
+-- Two overlapping triangles of the square are unimodular, their areas add up to the square's, the point (1/2, 1/5) lies in
+-- both, and they do not tile it.
 use Rattle.std.specs.List.{AllByRecursion}
 use Rattle.std.proofs.Common.{◌≡◌, ◌≢◌, ℕ, zero, suc, ◌<◌, pos, inl, refl, arith}
 use Rattle.std.proofs.lemmas.Int.{ints}

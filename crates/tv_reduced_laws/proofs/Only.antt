@@ -1,4 +1,5 @@
--- Two reduced families of one web have the same classes, in the same order, and the same coefficients.
+-- Two reduced families of one web have the same classes, in the same order, and the same coefficients
+-- through the order n.
 use Rattle.std.proofs.Common.{◌≡◌, ℕ, ℤ, pos, ◌≤ℤ◌, ◌⊎◌, inl, inr, true, false, List, [], ◌∷◌, Contains, refl, sym, ◌∙◌, ap, subst}
 use Rattle.std.specs.List.{AllByRecursion}
 use Rattle.tv_ring.specs.Operations.{Operations}

@@ -1,4 +1,4 @@
--- The premise that the points are spread is needed: one point alone is matched by no triangles, but not tiled by them.
+-- The premise that the points are not all on a line is needed: one point alone is matched by no triangles, but not tiled by them.
 use Rattle.std.specs.Prelude.{◌≡◌, ℕ, zero, suc, ◌<◌, pos, List, [], ◌∷◌}
 use Rattle.std.proofs.Common.{refl, arith}
 use Rattle.std.proofs.lemmas.Int.{ints}

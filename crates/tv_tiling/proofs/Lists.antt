@@ -1,4 +1,4 @@
--- Members of joined lists by the places of the pieces, and the first place of a negative value.
+-- Members of joined lists by the places of the pieces, and a place of a negative value.
 use Rattle.std.specs.Prelude.{◌≡◌, ◌⊎◌, ℕ, zero, suc, ◌<◌, ℤ, pos, ◌≤ℤ◌, ◌<ℤ◌, List, [], ◌∷◌, length, slice_index_or}
 use Rattle.std.specs.List.{flat_map}
 use Rattle.std.proofs.Common.{arith, inl, inr}

@@ -1,7 +1,7 @@
 -- What is true of matched edges and of tilings, as laws.
 --
--- MatchedTrianglesTile  == over small points, not all on a line, triangles whose directed edges match among themselves and
---                          with the hull tile the hull
+-- MatchedTrianglesTile  == over small points, not all on a line, turned triangles whose directed edges match among
+--                          themselves and with the hull tile the hull
 -- IsExchange t u        == u is t, or t with its last two points exchanged
 -- ExchangedTrianglesTile == such an exchange in any of the triangles changes nothing for a tiling
 use Rattle.std.specs.Prelude.{◌≡◌, ℕ, ◌<◌, ◌⊎◌, ◌↔◌, List, length}

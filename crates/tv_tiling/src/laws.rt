@@ -2,9 +2,9 @@
 
 ghost use Rattle.tv_tiling.specs.Laws.{MatchedTrianglesTile, ExchangedTrianglesTile};
 
-/// For points with coordinates of at most 100 in absolute value, not all on a line: unimodular triangles whose directed
-/// edges match, among themselves and with the hull, tile it, so that each generic rational point in the hull is in exactly
-/// one of them, and no other generic rational point is in any.
+/// For points with coordinates of at most 100 in absolute value, not all on a line: unimodular triangles on them, given
+/// counter-clockwise, whose directed edges match, among themselves and with the hull, tile it, so that each generic rational
+/// point in the hull is in exactly one of them, and no other generic rational point is in any.
 pub fn matched_triangles_tile()
     ensures { MatchedTrianglesTile }
 {}

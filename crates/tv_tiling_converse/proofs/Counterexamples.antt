@@ -1,4 +1,4 @@
--- The premise that the points are spread is needed: two points alone are tiled by no triangles, but not matched by them.
+-- The premise that the points are not all on a line is needed: two points alone are tiled by no triangles, but not matched by them.
 use Rattle.std.specs.Prelude.{◌≡◌, ℕ, zero, suc, ◌<◌, pos, ◌≤ℤ◌, List, [], ◌∷◌}
 use Rattle.std.proofs.Common.{refl, ap, sym, subst, arith, inl, inr}
 use Rattle.std.proofs.lemmas.Int.{ints}

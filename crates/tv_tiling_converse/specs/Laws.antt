@@ -1,7 +1,7 @@
 -- What is true of tilings, as a law.
 --
--- TilingTrianglesMatch == over distinct small points, not all on a line, the directed edges of triangles that tile the hull
---                         match
+-- TilingTrianglesMatch == over distinct small points, not all on a line, the directed edges of turned triangles that tile
+--                         the hull match
 use Rattle.std.specs.Prelude.{List}
 use Rattle.tv_spec_plane.specs.declared.records.Triple.{Triple}
 use Rattle.tv_spec_plane.specs.Plane.{Point, Segment}

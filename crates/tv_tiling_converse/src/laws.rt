@@ -3,8 +3,8 @@
 ghost use Rattle.tv_tiling_converse.specs.Laws.{TilingTrianglesMatch};
 
 /// For distinct points with coordinates of at most 100 in absolute value, not all on a line: where unimodular triangles
-/// tile the hull, their directed edges match, so that no edge stands twice, the back of each is an edge too or the edge is
-/// a hull segment, and each hull segment is an edge.
+/// on them, given counter-clockwise, tile the hull, their directed edges match, so that no edge stands twice, the back of
+/// each is an edge too or the edge is a hull segment, and each hull segment is an edge.
 pub fn tiling_triangles_match()
     ensures { TilingTrianglesMatch }
 {}
