@@ -5,13 +5,13 @@ use Rattle.std.specs.Prelude.{ℤ, pos, ◌+ℤ◌, ◌-ℤ◌, ◌≤ℤ◌, �
 use Rattle.std.specs.Int.{int_min}
 use Rattle.std.proofs.lemmas.Int.{ints}
 use Rattle.tv_ring.specs.Operations.{Operations, RingLaws}
-use Rattle.tv_terms.specs.Terms.{Terms, terms, above, listed, IsBounded}
-use Rattle.tv_terms.proofs.Exponents.{above_same, above_adds}
-use Rattle.tv_terms.proofs.Listed.{listed-none}
+use Rattle.tv_laws_series.specs.Terms.{Terms, terms, above, listed, IsBounded}
+use Rattle.tv_laws_series.proofs.Exponents.{above_same, above_adds}
+use Rattle.tv_laws_series.proofs.Listed.{listed-none}
 use Rattle.tv_spec_plane.specs.Web.{Web}
 use Rattle.tv_cells.specs.declared.legs.Legs.{Legs}
 use Rattle.tv_spec_boxes.specs.Assignments.{Rows, Assignment, all_legs, edge_costs, edge_twist, overlaps_of}
-use Rattle.tv_gluing.specs.Ways.{start_of}
+use Rattle.tv_laws_counts.specs.Ways.{start_of}
 use Rattle.tv_assignment.specs.Terms.{signed_times, signed, first_exponent, assignment_terms, front_times, front_terms, IsBeyond, IsTooMany}
 use Rattle.tv_assignment.proofs.WithSigns.{signed-are}
 

@@ -2,6 +2,7 @@
 use Rattle.std.proofs.Common.{◌≡◌, ℕ, zero, suc, ◌+◌, ◌-◌, ◌*◌, ◌≤◌, List, [], ◌∷◌, length, refl, ap, ◌∙◌, arith, le_trans, le_of_eq, mul_comm, Bool, true, false, w64}
 use mir.Val.{to_z, of_z}
 use Rattle.std.specs.Prelude.{ℤ, pos, negsuc, ◌+ℤ◌, ◌-ℤ◌, ◌*ℤ◌, ◌≤ℤ◌, unsigned_abs, nat_abs}
+use Rattle.std.specs.List.{range_with_len}
 use Rattle.std.proofs.lemmas.Int.{ints, unsigned_abs-mul}
 use Rattle.std.proofs.lemmas.List.{length-map}
 use Rattle.std.proofs.lemmas.Nat.{mul-le}
@@ -10,7 +11,7 @@ use Rattle.tv_partition.specs.Rows.{IsSmall, size, has}
 use Rattle.tv_partition.proofs.Bounds.{few_rows, short_rows}
 use Rattle.tv_cells.specs.declared.cell.Cell.{Cell}
 use Rattle.tv_cells.specs.declared.legs.Legs.{Legs}
-use Rattle.tv_cells.specs.Cells.{cell, below, numbers_from, x_from, y_from, column, diagonal, falling, cube}
+use Rattle.tv_cells.specs.Cells.{cell, below, x_from, y_from, column, diagonal, falling, cube}
 use Rattle.tv_cells.specs.Extras.{bit, legs_at, extent}
 use Rattle.tv_cells.specs.Costs.{row_cost, rows_cost, edge_cost, overlaps, overlap_cost}
 use Rattle.tv_cells.proofs.Bounded.{product_low, product_high, cell_low, cell_high}
@@ -52,7 +53,7 @@ twist-small a n h = rw (unsigned_abs-mul a (pos n)) (let most = mul-le (unsigned
     turned x y z l e = omega arith
 
 -- the cells of a cube are not too many
-length-numbers : (k n : ℕ) → length (numbers_from k n) ≡ n
+length-numbers : (k n : ℕ) → length (range_with_len k n) ≡ n
 length-numbers k zero = refl
 length-numbers k (suc n) = ap suc (length-numbers (suc k) n)
 

@@ -7,17 +7,17 @@ use Rattle.tv_ring.specs.Operations.{Operations, RingLaws, SizeLaws}
 use Rattle.tv_ring.specs.Sums.{AreValues, at, whole_times}
 use Rattle.tv_ring.proofs.Times.{times-none, whole_times-pos, value_whole_times}
 use Rattle.tv_ring.proofs.Sizes.{size-whole_times}
-use Rattle.tv_terms.specs.Terms.{terms, upto, above, listed}
-use Rattle.tv_terms.proofs.Exponents.{above_adds, above_over}
-use Rattle.tv_terms.proofs.Listed.{length-listed, at-listed}
-use Rattle.tv_terms.proofs.SeriesFrom.{value_listed}
+use Rattle.tv_laws_series.specs.Terms.{terms, upto, above, listed}
+use Rattle.tv_laws_series.proofs.Exponents.{above_adds, above_over}
+use Rattle.tv_laws_series.proofs.Listed.{length-listed, at-listed}
+use Rattle.tv_laws_series.proofs.SeriesFrom.{value_listed}
 use Rattle.tv_spec_plane.specs.Web.{Web, parity}
 use Rattle.tv_spec_boxes.specs.Assignments.{Rows, Assignment, all_legs, edge_twist}
 use Rattle.tv_spec_boxes.specs.Configurations.{boxes_left}
 use Rattle.tv_spec_series.specs.Families.{coefficient}
 use Rattle.tv_spec_series.proofs.Coefficients.{coefficient_below, coefficient_at}
-use Rattle.tv_gluing.specs.Ways.{ways_at, start_of, assignment_coefficient}
-use Rattle.tv_gluing.proofs.Bounds.{none_below_start}
+use Rattle.tv_laws_counts.specs.Ways.{ways_at, start_of, assignment_coefficient}
+use Rattle.tv_laws_counts.proofs.Bounds.{none_below_start}
 use Rattle.tv_assignment.specs.Terms.{signed_times, first_exponent, assignment_terms}
 
 pub signed_times-is : {A : Type 0} (r : Operations A) (w : Web) (fixed : List Rows) (a : Assignment) (low : ℤ) (i : ℕ) → signed_times r w fixed a low i ≡ whole_times r (assignment_coefficient w fixed a (low +ℤ pos i))

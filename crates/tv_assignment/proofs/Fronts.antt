@@ -11,19 +11,19 @@ use Rattle.tv_ring.proofs.Sums.{total_below-≤}
 use Rattle.tv_ring.proofs.Products.{convolution-same, size_term_is, size_convolution_is}
 use Rattle.tv_ring.proofs.Times.{times-none, times-one}
 use Rattle.tv_ring.proofs.Sizes.{size-times, reach-times}
-use Rattle.tv_terms.specs.Terms.{Terms, listed}
-use Rattle.tv_terms.specs.Series.{series_product, product_upto}
-use Rattle.tv_terms.proofs.Listed.{length-listed, at-listed, listed_all}
-use Rattle.tv_terms.proofs.SeriesFrom.{terms-same}
+use Rattle.tv_laws_series.specs.Terms.{Terms, listed}
+use Rattle.tv_laws_series.specs.Series.{series_product, product_upto}
+use Rattle.tv_laws_series.proofs.Listed.{length-listed, at-listed, listed_all}
+use Rattle.tv_laws_series.proofs.SeriesFrom.{terms-same}
 use Rattle.tv_laurent.specs.SeriesCalls.{ReachesAddUp, IsProductWide}
 use Rattle.tv_cells.specs.declared.legs.Legs.{Legs}
 use Rattle.tv_cells.specs.Extras.{count}
 use Rattle.tv_vertex.specs.Corners.{extras_times, corner_terms}
 use Rattle.tv_vertex.proofs.Corners.{extras_times-is}
-use Rattle.tv_gluing.specs.Ways.{split, spread, corner_ways}
-use Rattle.tv_gluing.proofs.Spreads.{split_is, spread_is, total_below-times}
-use Rattle.tv_gluing.proofs.InRings.{multiples, convolution-multiples}
-use Rattle.tv_gluing.proofs.CornerWays.{front-none, front-next}
+use Rattle.tv_laws_counts.specs.Ways.{split, spread, corner_ways}
+use Rattle.tv_laws_counts.proofs.Spreads.{split_is, spread_is, total_below-times}
+use Rattle.tv_laws_counts.proofs.InRings.{multiples, convolution-multiples}
+use Rattle.tv_laws_counts.proofs.CornerWays.{front-none, front-next}
 use Rattle.tv_assignment.specs.Terms.{front_times, front_terms, IsBeyond}
 
 pub front_times-is : {A : Type 0} (r : Operations A) (legs : List Legs) (i : ℕ) → front_times r legs i ≡ times r (corner_ways legs i)

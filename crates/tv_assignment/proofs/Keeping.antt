@@ -9,8 +9,8 @@ use Rattle.std.proofs.lemmas.List.{length-map}
 use Rattle.indexmap.specs.IndexMap.{insert_entry}
 use Rattle.std.specs.Map.{keys_of, values_of}
 use Rattle.tv_ring.specs.Operations.{Operations}
-use Rattle.tv_terms.specs.Terms.{Terms, upto}
-use Rattle.tv_terms.proofs.Listed.{length-listed}
+use Rattle.tv_laws_series.specs.Terms.{Terms, upto}
+use Rattle.tv_laws_series.proofs.Listed.{length-listed}
 use Rattle.tv_cells.specs.declared.legs.Legs.{Legs}
 use Rattle.tv_vertex.specs.Corners.{extras_times, corner_terms}
 use Rattle.tv_assignment.specs.declared.key.Key.{Key}

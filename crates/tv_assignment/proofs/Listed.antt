@@ -5,11 +5,11 @@ use Rattle.std.specs.List.{AllByRecursion}
 use Rattle.tv_spec_plane.specs.Web.{Web, compact}
 use Rattle.tv_partition.specs.Rows.{size}
 use Rattle.tv_spec_boxes.specs.Assignments.{Assignment, assignments}
-use Rattle.tv_degrees.specs.Grades.{IsGraded}
-use Rattle.tv_gluing.specs.Ways.{IsListed}
+use Rattle.tv_spec_plane.specs.Graded.{IsGraded}
+use Rattle.tv_laws_counts.specs.Ways.{IsListed}
 use Rattle.tv_lemmas.proofs.Members.{all-contains, all-members, all-onto}
-use Rattle.tv_gluing.proofs.Choices.{degree_by, choices_are, IsChoice}
-use Rattle.tv_gluing.proofs.Degrees.{assignments_listed, weights, weights_positive}
+use Rattle.tv_laws_counts.proofs.Choices.{degree_by, choices_are, IsChoice}
+use Rattle.tv_laws_counts.proofs.Degrees.{assignments_listed, weights, weights_positive}
 use Rattle.tv_assignment.specs.Terms.{cells_of}
 use Rattle.tv_assignment.specs.Asked.{IsOn}
 

@@ -5,13 +5,13 @@ use Rattle.std.proofs.lemmas.Int.{ints}
 use Rattle.tv_ring.specs.Operations.{Operations, RingLaws}
 use Rattle.tv_ring.specs.Sums.{at, times, whole_times}
 use Rattle.tv_ring.proofs.Times.{whole_times-pos, whole_times-neg}
-use Rattle.tv_terms.specs.Terms.{Terms, listed, above}
-use Rattle.tv_terms.proofs.Exponents.{above_adds}
-use Rattle.tv_terms.proofs.Listed.{at-listed, length-listed, listed_all}
+use Rattle.tv_laws_series.specs.Terms.{Terms, listed, above}
+use Rattle.tv_laws_series.proofs.Exponents.{above_adds}
+use Rattle.tv_laws_series.proofs.Listed.{at-listed, length-listed, listed_all}
 use Rattle.tv_spec_plane.specs.Web.{Web, parity, sign}
 use Rattle.tv_spec_boxes.specs.Assignments.{Rows, Assignment, all_legs, edge_costs, edge_twist, overlaps_of}
 use Rattle.tv_spec_boxes.specs.Configurations.{boxes_left}
-use Rattle.tv_gluing.specs.Ways.{corner_ways, ways_at, start_of, assignment_coefficient}
+use Rattle.tv_laws_counts.specs.Ways.{corner_ways, ways_at, start_of, assignment_coefficient}
 use Rattle.tv_assignment.specs.Terms.{signed_times, with_sign, signed, front_times}
 use Rattle.tv_assignment.proofs.Coefficients.{signed_times-is}
 use Rattle.tv_assignment.proofs.Fronts.{front_times-is}

@@ -1,11 +1,11 @@
 -- The assignments are written edge by edge: what is written and what is left make the whole.
 use Rattle.std.proofs.Common.{◌≡◌, ℕ, suc, ◌+◌, ◌-◌, ◌*◌, ◌≤◌, ◌<◌, Bool, true, false, cond, List, [], ◌∷◌, ◌++◌, map, length, drop, get_or, arith, refl, sym, ◌∙◌, ap, append_assoc, append-nil}
 use Rattle.std.specs.Prelude.{nat_le}
-use Rattle.std.specs.List.{flat_map}
+use Rattle.std.specs.List.{flat_map, range_with_len}
 use Rattle.std.proofs.Math.Seq.{drop-cons}
 use Rattle.std.proofs.lemmas.List.{drop_all, get_or_read}
-use Rattle.tv_spec_plane.specs.Web.{Web, below, numbers_from}
-use Rattle.tv_web.proofs.Finding.{numbers_from-step, numbers_from-end}
+use Rattle.tv_spec_plane.specs.Web.{Web, below}
+use Rattle.tv_web.proofs.Finding.{range_with_len-step, range_with_len-end}
 use Rattle.tv_partition.specs.Rows.{diagrams}
 use Rattle.tv_spec_boxes.specs.Assignments.{Rows, Assignment, choices, assignments}
 use Rattle.tv_lemmas.proofs.Lists.{flat_map-same, flat_map-filter}
@@ -47,19 +47,19 @@ choices-next front g gs d =
     ∙ flat_map-same (λ n. behind front (cond (nat_le (n * g) d) (flat_map (λ rows. map (λ a. rows ∷ a) (choices gs (d - (n * g)))) (diagrams n)) [])) (sized front gs d g) (behind-sized front gs d g) (below (suc d)))
 
 -- size by size
-pub sizes-first : (now : List Assignment) (front : List Rows) (g : ℕ) (gs degrees : List ℕ) (d : ℕ) → degrees ≡ g ∷ gs → now ++ flat_map (sized front gs d g) (numbers_from 0 ((d + 1) - 0)) ≡ now ++ behind front (choices degrees d)
+pub sizes-first : (now : List Assignment) (front : List Rows) (g : ℕ) (gs degrees : List ℕ) (d : ℕ) → degrees ≡ g ∷ gs → now ++ flat_map (sized front gs d g) (range_with_len 0 ((d + 1) - 0)) ≡ now ++ behind front (choices degrees d)
 sizes-first now front g gs degrees d e =
     let count : (d + 1) - 0 ≡ suc d = omega arith in
-    ap (λ n. now ++ flat_map (sized front gs d g) (numbers_from 0 n)) count ∙ ap (λ ss. now ++ ss) (sym (ap (λ ds. behind front (choices ds d)) e ∙ choices-next front g gs d))
+    ap (λ n. now ++ flat_map (sized front gs d g) (range_with_len 0 n)) count ∙ ap (λ ss. now ++ ss) (sym (ap (λ ds. behind front (choices ds d)) e ∙ choices-next front g gs d))
 
-pub sizes-next : (now next whole : List Assignment) (front : List Rows) (g : ℕ) (gs : List ℕ) (d n : ℕ) → n < d + 1 → next ≡ now ++ sized front gs d g n → now ++ flat_map (sized front gs d g) (numbers_from n ((d + 1) - n)) ≡ whole → next ++ flat_map (sized front gs d g) (numbers_from (n + 1) ((d + 1) - (n + 1))) ≡ whole
+pub sizes-next : (now next whole : List Assignment) (front : List Rows) (g : ℕ) (gs : List ℕ) (d n : ℕ) → n < d + 1 → next ≡ now ++ sized front gs d g n → now ++ flat_map (sized front gs d g) (range_with_len n ((d + 1) - n)) ≡ whole → next ++ flat_map (sized front gs d g) (range_with_len (n + 1) ((d + 1) - (n + 1))) ≡ whole
 sizes-next now next whole front g gs d n h pushed before =
     let up : n + 1 ≡ suc n = omega arith in
-    rw (up, pushed) (append_assoc now (sized front gs d g n) (flat_map (sized front gs d g) (numbers_from (suc n) ((d + 1) - suc n)))
-    ∙ (sym (ap (λ is. now ++ flat_map (sized front gs d g) is) (numbers_from-step n (d + 1) h)) ∙ before))
+    rw (up, pushed) (append_assoc now (sized front gs d g n) (flat_map (sized front gs d g) (range_with_len (suc n) ((d + 1) - suc n)))
+    ∙ (sym (ap (λ is. now ++ flat_map (sized front gs d g) is) (range_with_len-step n (d + 1) h)) ∙ before))
 
-pub sizes-last : (now whole : List Assignment) (front : List Rows) (g : ℕ) (gs : List ℕ) (d n : ℕ) → d + 1 ≤ n → now ++ flat_map (sized front gs d g) (numbers_from n ((d + 1) - n)) ≡ whole → now ≡ whole
-sizes-last now whole front g gs d n h before = sym (append-nil now) ∙ (sym (ap (λ is. now ++ flat_map (sized front gs d g) is) (numbers_from-end n (d + 1) h)) ∙ before)
+pub sizes-last : (now whole : List Assignment) (front : List Rows) (g : ℕ) (gs : List ℕ) (d n : ℕ) → d + 1 ≤ n → now ++ flat_map (sized front gs d g) (range_with_len n ((d + 1) - n)) ≡ whole → now ≡ whole
+sizes-last now whole front g gs d n h before = sym (append-nil now) ∙ (sym (ap (λ is. now ++ flat_map (sized front gs d g) is) (range_with_len-end n (d + 1) h)) ∙ before)
 
 -- diagram by diagram
 unfoldable pub each_behind : List Rows → List ℕ → ℕ → List Rows → List Assignment

@@ -7,7 +7,7 @@
 use Rattle.std.specs.Prelude.{◌≡◌, ℕ, List, Some, slice_get}
 use Rattle.std.specs.List.{AllByRecursion}
 use Rattle.tv_ring.specs.Operations.{Operations}
-use Rattle.tv_terms.specs.Terms.{Terms}
+use Rattle.tv_laws_series.specs.Terms.{Terms}
 use Rattle.tv_cells.specs.declared.legs.Legs.{Legs}
 use Rattle.tv_assignment.specs.declared.key.Key.{Key}
 use Rattle.tv_assignment.specs.Terms.{IsCornerFrom}

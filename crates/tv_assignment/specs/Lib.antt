@@ -3,4 +3,4 @@ pub mod Listing
 pub mod Kept
 pub mod Asked
 pub use Rattle.tv_spec_boxes.specs.Assignments
-pub use Rattle.tv_gluing.specs.Ways
+pub use Rattle.tv_laws_counts.specs.Ways

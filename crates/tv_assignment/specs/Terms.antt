@@ -18,7 +18,7 @@ use Rattle.std.specs.Prelude.{◌≡◌, Contains, ℕ, suc, ◌+◌, ◌*◌, �
 use Rattle.std.specs.Int.{int_min}
 use Rattle.tv_ring.specs.Operations.{Operations, limit}
 use Rattle.tv_ring.specs.Sums.{at, times, whole_times}
-use Rattle.tv_terms.specs.Terms.{Terms, terms, above, listed}
+use Rattle.tv_laws_series.specs.Terms.{Terms, terms, above, listed}
 use Rattle.tv_spec_plane.specs.Web.{Web, parity}
 use Rattle.tv_partition.specs.Rows.{size}
 use Rattle.tv_cells.specs.declared.legs.Legs.{Legs}
@@ -26,7 +26,7 @@ use Rattle.tv_cells.specs.Extras.{count}
 use Rattle.tv_vertex.specs.Corners.{corner_terms}
 use Rattle.tv_spec_boxes.specs.Assignments.{Rows, Assignment, all_legs}
 use Rattle.tv_spec_boxes.specs.Configurations.{boxes_left}
-use Rattle.tv_gluing.specs.Ways.{corner_ways, start_of, assignment_coefficient}
+use Rattle.tv_laws_counts.specs.Ways.{corner_ways, start_of, assignment_coefficient}
 
 abbrev pub cells_of : Assignment → ℕ
 cells_of [] = 0

@@ -24,7 +24,7 @@ pub struct Corners<C: Ring> {
 impl<C: Ring> Model for Corners<C> {
     ghost use Rattle.std.specs.Prelude.{List};
     ghost use Rattle.indexmap.specs.IndexMap.{values};
-    ghost use Rattle.tv_terms.specs.Terms.{Terms};
+    ghost use Rattle.tv_laws_series.specs.Terms.{Terms};
     ghost use Rattle.tv_assignment.specs.Kept.{AreKept};
 
     ghost Value = { List (Terms C) };

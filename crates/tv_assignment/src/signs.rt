@@ -2,7 +2,7 @@
 
 ghost use Rattle.std.specs.Prelude.{◌≡◌, ◌≤◌, ◌<◌, ◌*◌, ◌+ℤ◌, ◌*ℤ◌, ◌^◌, pos, unsigned_abs, length, IfOk, IsOkUnless};
 ghost use Rattle.tv_ring.specs.Sums.{at};
-ghost use Rattle.tv_terms.specs.Terms.{listed};
+ghost use Rattle.tv_laws_series.specs.Terms.{listed};
 ghost use Rattle.tv_spec_plane.specs.Web.{compact, parity, normal_a};
 ghost use Rattle.tv_partition.specs.Rows.{size};
 ghost use Rattle.tv_degrees.specs.Edges.{edge_at};

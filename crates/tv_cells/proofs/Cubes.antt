@@ -4,11 +4,11 @@ use Rattle.std.specs.Prelude.{ℤ, pos, negsuc, ◌-ℤ◌, nat_abs}
 use Rattle.std.proofs.lemmas.Bool.{and_parts, and_from, or_cases, or_left, or_right, cases_eq, cases_lt, lt-ltb, ltb-true}
 use Rattle.std.proofs.lemmas.Bool.Decides.{nat_tests}
 use Rattle.std.proofs.lemmas.Int.{ints}
-use Rattle.std.specs.List.{list_any, flat_map, AllByRecursion}
+use Rattle.std.specs.List.{list_any, flat_map, AllByRecursion, range_with_len}
 use Rattle.tv_lemmas.proofs.Lists.{list_any-map, list_any-flat_map}
 use Rattle.tv_lemmas.proofs.Members.{all-append, all-onto}
 use Rattle.tv_cells.specs.declared.cell.Cell.{Cell}
-use Rattle.tv_cells.specs.Cells.{cell, same, precedes, rises, numbers_from, below, x_from, y_from, column, diagonal, falling, cube}
+use Rattle.tv_cells.specs.Cells.{cell, same, precedes, rises, below, x_from, y_from, column, diagonal, falling, cube}
 use Rattle.tv_cells.proofs.Rising.{Before, AllBefore, rises-append, rises-cons, same_is}
 
 before_each : (c : Cell) (Q : Cell → Type 0) → ((d : Cell) → Q d → precedes c d ≡ true) → (cells : List Cell) → AllByRecursion Q cells → Before c cells
@@ -37,21 +37,21 @@ places_precede t k c d p q = grind (arith, nat_tests)
 heights_precede : (x y j k : ℕ) → j < k → precedes (cell x y j) (cell x y k) ≡ true
 heights_precede x y j k l = grind (arith, nat_tests)
 
-column-before : (x y j k n : ℕ) → j < k → Before (cell x y j) (map (λ z. cell x y z) (numbers_from k n))
+column-before : (x y j k n : ℕ) → j < k → Before (cell x y j) (map (λ z. cell x y z) (range_with_len k n))
 column-before x y j k zero l = tt
 column-before x y j k (suc n) l = (heights_precede x y j k l, column-before x y j (suc k) n (omega arith))
 
-column-rises : (x y k n : ℕ) → rises (map (λ z. cell x y z) (numbers_from k n)) ≡ true
+column-rises : (x y k n : ℕ) → rises (map (λ z. cell x y z) (range_with_len k n)) ≡ true
 column-rises x y k zero = refl
 column-rises x y k (suc n) =
-    rises-cons (cell x y k) (map (λ z. cell x y z) (numbers_from (suc k) n)) (column-before x y k (suc k) n (omega arith)) (column-rises x y (suc k) n)
+    rises-cons (cell x y k) (map (λ z. cell x y z) (range_with_len (suc k) n)) (column-before x y k (suc k) n (omega arith)) (column-rises x y (suc k) n)
 
-column-place : (t : ℤ) (d k n : ℕ) → AllByRecursion (AtPlace t d) (map (λ z. cell (d + x_from t) (d + y_from t) z) (numbers_from k n))
+column-place : (t : ℤ) (d k n : ℕ) → AllByRecursion (AtPlace t d) (map (λ z. cell (d + x_from t) (d + y_from t) z) (range_with_len k n))
 column-place t d k zero = tt
 column-place t d k (suc n) = (record { on = omega arith; place = refl }, column-place t d (suc k) n)
 
 abbrev columns : ℤ → ℕ → ℕ → ℕ → List Cell
-columns t h k n = flat_map (λ d. column t d h) (numbers_from k n)
+columns t h k n = flat_map (λ d. column t d h) (range_with_len k n)
 
 columns-place : (t : ℤ) (h j k n : ℕ) → j ≤ k → AllByRecursion (FromPlace t j) (columns t h k n)
 columns-place t h j k zero l = tt
@@ -139,7 +139,7 @@ starts_within : (t : ℤ) → (x_from t ≤ nat_abs t) × (y_from t ≤ nat_abs 
 starts_within (pos n) = (omega arith, omega arith)
 starts_within (negsuc n) = (omega arith, omega arith)
 
-column-within : (t : ℤ) (n d k h : ℕ) → d + nat_abs t < n → k + h ≤ n → AllByRecursion (Within n) (map (λ z. cell (d + x_from t) (d + y_from t) z) (numbers_from k h))
+column-within : (t : ℤ) (n d k h : ℕ) → d + nat_abs t < n → k + h ≤ n → AllByRecursion (Within n) (map (λ z. cell (d + x_from t) (d + y_from t) z) (range_with_len k h))
 column-within t n d k zero l m = tt
 column-within t n d k (suc h) l m =
     let start = starts_within t in
@@ -155,11 +155,11 @@ diagonals-within n zero s = tt
 diagonals-within n (suc m) s =
     all-append (Within n) (diagonal s (n - nat_abs s) n) (diagonals n n m (s -ℤ pos 1)) (columns-within s n 0 (n - nat_abs s) (omega arith)) (diagonals-within n m (s -ℤ pos 1))
 
-any-numbers : (p : ℕ → Bool) (k n j : ℕ) → k ≤ j → j < k + n → p j ≡ true → list_any p (numbers_from k n) ≡ true
+any-numbers : (p : ℕ → Bool) (k n j : ℕ) → k ≤ j → j < k + n → p j ≡ true → list_any p (range_with_len k n) ≡ true
 any-numbers p k zero j l m e = absurd (omega arith)
 any-numbers p k (suc n) j l m e = elim (cases_eq k j) [
-  | inl here ↦ or_left (p k) (list_any p (numbers_from (suc k) n)) (ap p here ∙ e)
-  | inr later ↦ or_right (p k) (list_any p (numbers_from (suc k) n)) (any-numbers p (suc k) n j (omega arith) (omega arith) e)
+  | inl here ↦ or_left (p k) (list_any p (range_with_len (suc k) n)) (ap p here ∙ e)
+  | inr later ↦ or_right (p k) (list_any p (range_with_len (suc k) n)) (any-numbers p (suc k) n j (omega arith) (omega arith) e)
 ]
 
 diagonal_has : (t : ℤ) (d m h : ℕ) (c : Cell) → c.x ≡ d + x_from t → c.y ≡ d + y_from t → d < m → c.z < h → list_any (same c) (diagonal t m h) ≡ true

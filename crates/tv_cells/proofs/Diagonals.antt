@@ -1,20 +1,20 @@
 -- The diagonals by their numbers are those of the cube.
 use Rattle.std.proofs.Common.{◌≡◌, ℕ, suc, zero, ◌+◌, ◌-◌, ◌*◌, ◌<◌, List, [], ◌∷◌, ◌++◌, arith, refl, sym, ◌∙◌, ap}
 use Rattle.std.specs.Prelude.{ℤ, pos, negsuc, ◌-ℤ◌, nat_abs}
-use Rattle.std.specs.List.{flat_map}
+use Rattle.std.specs.List.{flat_map, range_with_len}
 use Rattle.std.proofs.lemmas.Int.{ints}
 use Rattle.tv_cells.specs.declared.cell.Cell.{Cell}
-use Rattle.tv_cells.specs.Cells.{numbers_from, x_from, y_from, diagonal, falling, cube}
+use Rattle.tv_cells.specs.Cells.{x_from, y_from, diagonal, falling, cube}
 use Rattle.tv_cells.specs.Grid.{columns, diagonal_of, diagonals}
 
 -- the numbers from k to n - 1 begin with k
-pub numbers-next : (k n : ℕ) → k < n → numbers_from k (n - k) ≡ k ∷ numbers_from (k + 1) (n - (k + 1))
+pub numbers-next : (k n : ℕ) → k < n → range_with_len k (n - k) ≡ k ∷ range_with_len (k + 1) (n - (k + 1))
 numbers-next k n l =
     let more : n - k ≡ suc (n - (k + 1)) = omega arith in
     let up : suc k ≡ k + 1 = omega arith in
-    rw more (ap (λ j. k ∷ numbers_from j (n - (k + 1))) up)
+    rw more (ap (λ j. k ∷ range_with_len j (n - (k + 1))) up)
 
-pub numbers-none : (n : ℕ) → numbers_from n (n - n) ≡ []
+pub numbers-none : (n : ℕ) → range_with_len n (n - n) ≡ []
 numbers-none n = let none : n - n ≡ 0 = omega arith in rw none refl
 
 less_one : (n k : ℕ) → (pos n -ℤ pos k) -ℤ pos 1 ≡ pos n -ℤ pos (suc k)

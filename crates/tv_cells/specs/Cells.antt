@@ -4,7 +4,7 @@
 -- same c d        == the two cells are one
 -- precedes c d    == c comes before d: the lesser y - x first, then the lesser x, then the lesser z
 -- rises cells     == each cell precedes the next one
--- numbers_from k n == k, k + 1, .., n numbers
+-- range_with_len k n == k, k + 1, .., n numbers
 -- below n         == 0, 1, .., n - 1
 -- x_from t, y_from t == where the diagonal with x - y = t begins
 -- column t d h    == the cells at place d of that diagonal, of heights 0 to h - 1
@@ -14,7 +14,7 @@
 -- sublists_of n cells == the sublists of n members, those with an earlier cell first
 -- sublists cells  == all sublists, each cell in or out
 use Rattle.std.specs.Prelude.{ℕ, zero, suc, ◌+◌, ◌-◌, ℤ, pos, negsuc, ◌-ℤ◌, nat_abs, Bool, true, ◌&&◌, ◌||◌, List, [], ◌∷◌, ◌++◌, map, nat_eq, nat_lt}
-use Rattle.std.specs.List.{flat_map}
+use Rattle.std.specs.List.{flat_map, range_with_len}
 use Rattle.tv_cells.specs.declared.cell.Cell.{Cell}
 
 abbrev pub cell : ℕ → ℕ → ℕ → Cell
@@ -31,12 +31,8 @@ rises [] = true
 rises (c ∷ []) = true
 rises (c ∷ d ∷ cells) = precedes c d && rises (d ∷ cells)
 
-abbrev pub numbers_from : ℕ → ℕ → List ℕ
-numbers_from k zero = []
-numbers_from k (suc n) = k ∷ numbers_from (suc k) n
-
 abbrev pub below : ℕ → List ℕ
-below n = numbers_from 0 n
+below n = range_with_len 0 n
 
 -- where the diagonal of that x - y begins
 abbrev pub x_from : ℤ → ℕ

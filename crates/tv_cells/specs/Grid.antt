@@ -5,18 +5,18 @@
 -- diagonal_of side k    == diagonal number k of the cube of that side
 -- diagonals side k n    == the diagonals of the cube of that side from number k on, n of them, number 0 being that of the greatest x
 use Rattle.std.specs.Prelude.{ℕ, ◌+◌, ◌-◌, List, map}
-use Rattle.std.specs.List.{flat_map}
+use Rattle.std.specs.List.{flat_map, range_with_len}
 use Rattle.tv_cells.specs.declared.cell.Cell.{Cell}
-use Rattle.tv_cells.specs.Cells.{cell, numbers_from}
+use Rattle.tv_cells.specs.Cells.{cell}
 
 abbrev pub heights : ℕ → ℕ → ℕ → ℕ → List Cell
-heights x y k n = map (λ z. cell x y z) (numbers_from k n)
+heights x y k n = map (λ z. cell x y z) (range_with_len k n)
 
 abbrev pub columns : ℕ → ℕ → ℕ → ℕ → ℕ → List Cell
-columns x y h k n = flat_map (λ d. heights (d + x) (d + y) 0 h) (numbers_from k n)
+columns x y h k n = flat_map (λ d. heights (d + x) (d + y) 0 h) (range_with_len k n)
 
 abbrev pub diagonal_of : ℕ → ℕ → List Cell
 diagonal_of side k = columns ((side - 1) - k) (k - (side - 1)) side 0 (side - (((side - 1) - k) + (k - (side - 1))))
 
 abbrev pub diagonals : ℕ → ℕ → ℕ → List Cell
-diagonals side k n = flat_map (diagonal_of side) (numbers_from k n)
+diagonals side k n = flat_map (diagonal_of side) (range_with_len k n)

@@ -1,19 +1,19 @@
 -- The rule of an edge bounds its normal degrees: r times the way from a to b is the sum of the ways from a to c and to d,
 -- each coordinate of which is at most 400, and a and b are apart.
 use Rattle.std.specs.Prelude.{◌≡◌, ◌≢◌, ℕ, zero, suc, ◌<◌, ◌≤◌, ◌⊎◌, Bool, true, false, cond, ◌||◌, nat_eq, ℤ, pos, negsuc, ◌+ℤ◌, ◌-ℤ◌, ◌*ℤ◌, map, length, unsigned_abs}
-use Rattle.std.specs.List.{AllByRecursion}
+use Rattle.std.specs.List.{AllByRecursion, range_with_len}
 use Rattle.std.proofs.Common.{refl, inl, inr, arith, lit≤, ◌*◌}
 use Rattle.std.proofs.lemmas.Int.{ints, unsigned_abs-mul}
 use Rattle.std.proofs.Math.Nat.{mul-le-mul}
 use Rattle.tv_spec_plane.specs.declared.records.CompactEdge.{CompactEdge}
 use Rattle.tv_spec_plane.specs.Plane.{Point, at, turn}
-use Rattle.tv_spec_plane.specs.Web.{Web, numbers_from, compact, edge_ratio, normal_a, normal_b, class_entry, edge_class}
+use Rattle.tv_spec_plane.specs.Web.{Web, compact, edge_ratio, normal_a, normal_b, class_entry, edge_class}
 use Rattle.tv_lemmas.proofs.Integers.{mul-sub, sub-mul}
 use Rattle.tv_lemmas.proofs.Signs.{sign}
 use Rattle.tv_lattice.specs.Limits.{IsCoordinate, HasCoordinates}
 use Rattle.tv_lemmas.proofs.Members.{all-at}
-use Rattle.tv_edge_laws.specs.Rule.{HasSides, ratio, HasRule, HasEdgeRule}
-use Rattle.tv_edge_laws.proofs.Rules.{ratio-rule}
+use Rattle.tv_laws_edges.specs.Rule.{HasSides, ratio, HasRule, HasEdgeRule}
+use Rattle.tv_laws_edges.proofs.Rules.{ratio-rule}
 use Rattle.tv_degrees.specs.Edges.{no_edge, edge_at, IsNormalDegree}
 
 -- a product with a factor that isn't 0
@@ -84,7 +84,7 @@ entry-small m n false true second h k = h
 entry-small m n false false true h k = k
 entry-small m n false false false h k = lit≤ tt
 
-entries-small : (f : ℕ → ℤ) → ((k : ℕ) → IsNormalDegree (f k)) → (k n : ℕ) → AllByRecursion IsNormalDegree (map f (numbers_from k n))
+entries-small : (f : ℕ → ℤ) → ((k : ℕ) → IsNormalDegree (f k)) → (k n : ℕ) → AllByRecursion IsNormalDegree (map f (range_with_len k n))
 entries-small f each k zero = tt
 entries-small f each k (suc n) = (each k, entries-small f each (suc k) n)
 

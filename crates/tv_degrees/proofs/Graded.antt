@@ -10,7 +10,8 @@ use Rattle.tv_lattice.proofs.Each.{each_take_more}
 use Rattle.tv_degrees.specs.declared.fault.DegreeFault.{DegreeFault}
 use Rattle.tv_degrees.specs.declared.fault.DegreeFault.TheVariants.{Degree, Memory}
 use Rattle.tv_degrees.specs.Edges.{no_edge, edge_at}
-use Rattle.tv_degrees.specs.Grades.{HasDegree, IsLow, IsDegreeFault, AreGrades, IsPushed}
+use Rattle.tv_degrees.specs.Grades.{IsLow, IsDegreeFault, AreGrades, IsPushed}
+use Rattle.tv_spec_plane.specs.Graded.{HasDegree}
 
 pub grades_first : (w : Web) (es : List CompactEdge) (vs : List (List ℤ)) (zs : List ℤ) → vs ≡ [] → zs ≡ [] → AreGrades w (take 0 es) vs zs
 grades_first w es vs zs e f = record { classes = e; degrees = f; graded = tt }

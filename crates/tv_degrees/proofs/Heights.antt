@@ -4,7 +4,7 @@ use Rattle.std.specs.List.{AllByRecursion}
 use Rattle.std.proofs.Common.{refl, sym, ap, subst}
 use Rattle.tv_spec_plane.specs.declared.records.CompactEdge.{CompactEdge}
 use Rattle.tv_spec_plane.specs.Web.{Web, compact, outer, corners, edge_ref, edge_ratio, edge_class, edge_degree, degree_of}
-use Rattle.tv_edge_laws.specs.Rule.{HasRule, HasEdgeRule}
+use Rattle.tv_laws_edges.specs.Rule.{HasRule, HasEdgeRule}
 use Rattle.tv_degrees.specs.Edges.{with_heights}
 
 pub edge_class-heights : (w : Web) (hs : List ℤ) (e : CompactEdge) → edge_class (with_heights w hs) e ≡ edge_class w e

@@ -7,7 +7,7 @@ use Rattle.std.proofs.lemmas.List.{drop_all}
 use Rattle.std.proofs.lemmas.Int.{ints}
 use Rattle.tv_spec_plane.specs.Plane.{Point, at}
 use Rattle.tv_spec_plane.specs.Web.{even_sum, is_even_point, class_sign, parity}
-use Rattle.tv_edge_laws.proofs.Parity.{is_even, eqv, is_even-add}
+use Rattle.tv_laws_edges.proofs.Parity.{is_even, eqv, is_even-add}
 
 bit_cases : (n : ℕ) → (n % 2 ≡ 0) ⊎ (n % 2 ≡ 1)
 bit_cases n = grind arith

@@ -1,7 +1,5 @@
 -- Webs with heights under which every compact edge has a positive degree.
 --
--- HasDegree w e == the degree of the edge is at least 1
--- IsGraded w    == every compact edge has a degree of at least 1
 -- IsLow w e f   == f names the edge and its degree, which is at most 0, or is want of memory
 -- IsFirstLow w k a b z == edge number k is the first of a degree of at most 0: its points are a and b, its degree z
 -- IsDegreeFault w f == f names the first compact edge of a degree of at most 0, or is want of memory
@@ -12,16 +10,11 @@ use Rattle.std.specs.Prelude.{◌≡◌, ◌<◌, ◌≤◌, ℕ, ℤ, pos, ◌<
 use Rattle.std.specs.List.{AllByRecursion}
 use Rattle.tv_spec_plane.specs.declared.records.CompactEdge.{CompactEdge}
 use Rattle.tv_spec_plane.specs.Web.{Web, compact, edge_class, edge_degree}
+use Rattle.tv_spec_plane.specs.Graded.{HasDegree}
 use Rattle.tv_lattice.specs.Limits.{IsHeight}
 use Rattle.tv_degrees.specs.declared.fault.DegreeFault.{DegreeFault}
 use Rattle.tv_degrees.specs.declared.fault.DegreeFault.TheVariants.{Degree, Memory}
 use Rattle.tv_degrees.specs.Edges.{edge_at}
-
-abbrev pub HasDegree : Web → CompactEdge → Type 0
-HasDegree w e = pos 0 <ℤ edge_degree w e
-
-abbrev pub IsGraded : Web → Type 0
-IsGraded w = AllByRecursion (HasDegree w) (compact w)
 
 abbrev pub IsLow : Web → CompactEdge → DegreeFault → Type 0
 IsLow w e (Degree a b z) = (a ≡ e.a) × (b ≡ e.b) × (z ≡ edge_degree w e) × (z ≤ℤ pos 0)

@@ -5,9 +5,10 @@ ghost use Rattle.std.specs.Prelude.{◌≡◌, ◌≤◌, ◌<◌, ◌<ℤ◌, p
 ghost use Rattle.std.specs.List.{AllByRecursion};
 ghost use Rattle.tv_spec_plane.specs.Web.{compact, outer, corners, edge_ratio, normal_a, normal_b, edge_class, edge_degree};
 ghost use Rattle.tv_lattice.specs.Limits.{IsHeight, HasCoordinates};
-ghost use Rattle.tv_edge_laws.specs.Rule.{HasEdgeRule};
+ghost use Rattle.tv_laws_edges.specs.Rule.{HasEdgeRule};
 ghost use Rattle.tv_degrees.specs.Edges.{edge_at, with_heights, IsNormalDegree};
-ghost use Rattle.tv_degrees.specs.Grades.{IsGraded, IsDegreeFault, IsHeighted};
+ghost use Rattle.tv_degrees.specs.Grades.{IsDegreeFault, IsHeighted}
+ghost use Rattle.tv_spec_plane.specs.Graded.{IsGraded};
 
 use crate::classes;
 use crate::fault::DegreeFault;

@@ -2,7 +2,7 @@
 //! list of points.
 
 ghost use Rattle.std.specs.Prelude.{◌≡◌, ◌≤◌, ◌-ℤ◌, ◌*ℤ◌, pos, unsigned_abs};
-ghost use Rattle.tv_edge_laws.specs.Rule.{HasSides, ratio, IsOnlyRule};
+ghost use Rattle.tv_laws_edges.specs.Rule.{HasSides, ratio, IsOnlyRule};
 
 use tv_lattice::point::Point;
 use tv_lattice::turn::turn;

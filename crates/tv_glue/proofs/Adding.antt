@@ -4,23 +4,24 @@ use Rattle.std.proofs.Common.{refl, sym, ap, subst, ◌∙◌, get_or, drop, tak
 use Rattle.std.proofs.lemmas.Int.{ints}
 use Rattle.std.proofs.lemmas.List.{take_more, take-append-drop, get_or_read}
 use Rattle.tv_ring.specs.Operations.{Operations, RingLaws, SizeLaws}
-use Rattle.tv_terms.specs.Terms.{Terms, upto}
-use Rattle.tv_terms.specs.Series.{IsSeries}
+use Rattle.tv_laws_series.specs.Terms.{Terms, upto}
+use Rattle.tv_laws_series.specs.Series.{IsSeries}
 use Rattle.tv_spec_plane.specs.Web.{Web, compact}
 use Rattle.tv_spec_boxes.specs.Assignments.{Assignment, assignments, class_of, no_legs}
 use Rattle.tv_spec_series.specs.Families.{Family, without_rows, added, HasPlace, IsFamily, IsAddend}
 use Rattle.tv_graded.specs.Calls.{IsAddedWide}
-use Rattle.tv_degrees.specs.Grades.{IsGraded, IsHeighted}
-use Rattle.tv_gluing.specs.Ways.{IsListed}
-use Rattle.tv_gluing.proofs.Degrees.{assignments_listed}
+use Rattle.tv_degrees.specs.Grades.{IsHeighted}
+use Rattle.tv_spec_plane.specs.Graded.{IsGraded}
+use Rattle.tv_laws_counts.specs.Ways.{IsListed}
+use Rattle.tv_laws_counts.proofs.Degrees.{assignments_listed}
 use Rattle.tv_lemmas.proofs.Members.{all-contains}
 use Rattle.tv_assignment.specs.Terms.{cells_of, assignment_terms, IsTooMany}
 use Rattle.tv_assignment.proofs.Coefficients.{terms-upto, terms-low, terms-coefficient}
 use Rattle.tv_assignment.proofs.Listed.{listed-one_each, listed-few}
-use Rattle.tv_glue_laws.specs.Full.{IsFull}
-use Rattle.tv_glue_laws.specs.Glued.{IsTermsOf, IsGlued}
-use Rattle.tv_glue_laws.proofs.Glued.{glued-none, glued-more}
-use Rattle.tv_glue_laws.proofs.Full.{glued-full}
+use Rattle.tv_spec_series.specs.Full.{IsFull}
+use Rattle.tv_laws_families.specs.Glued.{IsTermsOf, IsGlued}
+use Rattle.tv_laws_families.proofs.Glued.{glued-none, glued-more}
+use Rattle.tv_laws_families.proofs.Full.{glued-full}
 use Rattle.tv_glue.specs.Faults.{IsCrowded}
 use Rattle.tv_glue.proofs.Crowded.{open-diagrams, crowded-series, crowded-sum}
 

@@ -7,8 +7,8 @@ use Rattle.std.proofs.Common.{ap, ◌∙◌, arith, inl, inr}
 use Rattle.std.proofs.Math.Nat.{mul-le-mul_right}
 use Rattle.std.proofs.lemmas.Int.{ints, clamps}
 use Rattle.tv_ring.specs.Operations.{Operations, RingLaws, SizeLaws, limit}
-use Rattle.tv_terms.specs.Terms.{Terms, upto, known, from}
-use Rattle.tv_terms.proofs.Exponents.{above_is}
+use Rattle.tv_laws_series.specs.Terms.{Terms, upto, known, from}
+use Rattle.tv_laws_series.proofs.Exponents.{above_is}
 use Rattle.tv_laurent.proofs.SeriesCalls.{sum_size_is}
 use Rattle.tv_spec_plane.specs.declared.records.OuterEdge.{OuterEdge}
 use Rattle.tv_spec_plane.specs.Web.{Web, outer}
@@ -18,12 +18,12 @@ use Rattle.tv_spec_boxes.specs.Numbers.{lowest, box_bound}
 use Rattle.tv_spec_series.specs.Families.{Family, coefficient, series_coefficient, coefficient_of}
 use Rattle.tv_spec_series.proofs.Coefficients.{coefficient-from}
 use Rattle.tv_graded.specs.Calls.{IsAddedWide}
-use Rattle.tv_degrees.specs.Grades.{IsGraded}
-use Rattle.tv_gluing.proofs.Bounds.{boxes_within}
-use Rattle.tv_gluing.proofs.Crowds.{crowd_of_front, crowd_of_corner}
+use Rattle.tv_spec_plane.specs.Graded.{IsGraded}
+use Rattle.tv_laws_counts.proofs.Bounds.{boxes_within}
+use Rattle.tv_laws_counts.proofs.Crowds.{crowd_of_front, crowd_of_corner}
 use Rattle.tv_assignment.specs.Terms.{IsTooMany}
-use Rattle.tv_glue_laws.specs.Glued.{IsTermsOf, IsGlued}
-use Rattle.tv_glue_laws.proofs.Wide.{sum-crowd}
+use Rattle.tv_laws_families.specs.Glued.{IsTermsOf, IsGlued}
+use Rattle.tv_laws_families.proofs.Wide.{sum-crowd}
 use Rattle.tv_glue.specs.Faults.{IsCrowded}
 
 -- the legs on open edges are diagrams

@@ -14,10 +14,10 @@ use Rattle.tv_lattice.specs.Classes.{IsEntry, IsEntries}
 use Rattle.tv_lemmas.proofs.Members.{all-at}
 use Rattle.tv_lattice.proofs.Each.{each_push}
 use Rattle.tv_lattice.proofs.Sums.{small-fits}
-use Rattle.tv_edge_laws.specs.Rule.{HasRule}
+use Rattle.tv_laws_edges.specs.Rule.{HasRule}
 use Rattle.tv_spec_boxes.specs.Assignments.{Rows, Assignment, zeros, plus, times, class_on, class_of}
 use Rattle.tv_degrees.specs.Edges.{no_edge, edge_at, IsNormalDegree}
-use Rattle.tv_degrees.proofs.Entries.{entries-length}
+use Rattle.std.proofs.lemmas.List.FromFn.{length-map-range_with_len}
 use Rattle.tv_degrees.proofs.Bounds.{class_entries-small}
 use Rattle.tv_assignment.specs.Terms.{cells_of}
 
@@ -55,7 +55,7 @@ length-class_on w [] a = length-zeros (length w.points)
 length-class_on w (e ∷ es) [] = length-zeros (length w.points)
 length-class_on w (e ∷ es) (rows ∷ a) =
     let first = length-map (edge_class w e) (λ x. pos (size rows) *ℤ x) in
-    let entries = entries-length (class_entry w e) (length w.points) in
+    let entries = length-map-range_with_len (class_entry w e) 0 (length w.points) in
     let rest = length-class_on w es a in
     length-plus (times (size rows) (edge_class w e)) (class_on w es a) (omega arith) ∙ rest
 
@@ -65,7 +65,7 @@ length-class_of w a = length-class_on w (compact w) a
 -- ---- how great they are
 
 pub within-class : (w : Web) (e : CompactEdge) (v : List ℤ) (k : ℕ) → v ≡ edge_class w e → k < length w.points → k < length v
-within-class w e v k is h = let n = ap length is in let l = entries-length (class_entry w e) (length w.points) in omega arith
+within-class w e v k is h = let n = ap length is in let l = length-map-range_with_len (class_entry w e) 0 (length w.points) in omega arith
 
 pub entry-small : (w : Web) (e : CompactEdge) (v : List ℤ) (k : ℕ) (x : ℤ) → AllByRecursion HasCoordinates w.points → HasRule w e → v ≡ edge_class w e → k < length w.points → x ≡ get_or v k (pos 0) → unsigned_abs x ≤ 402
 entry-small w e v k x small rule is h read =

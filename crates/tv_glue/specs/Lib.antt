@@ -1,3 +1,3 @@
 pub mod Faults
-pub use Rattle.tv_glue_laws.specs.Full
-pub use Rattle.tv_glue_laws.specs.Glued
+pub use Rattle.tv_spec_series.specs.Full
+pub use Rattle.tv_laws_families.specs.Glued

@@ -3,8 +3,8 @@
 ghost use Rattle.std.specs.Prelude.{◌≡◌, ◌≤◌, ◌<◌, ◌+◌, pos, unsigned_abs, length, take, IfOk, IfErr, OnOk};
 ghost use Rattle.tv_spec_boxes.specs.Assignments.{assignments, no_legs};
 ghost use Rattle.tv_spec_series.specs.Families.{without_rows};
-ghost use Rattle.tv_glue_laws.specs.Full.{IsFull};
-ghost use Rattle.tv_glue_laws.specs.Glued.{IsGlued};
+ghost use Rattle.tv_spec_series.specs.Full.{IsFull};
+ghost use Rattle.tv_laws_families.specs.Glued.{IsGlued};
 ghost use Rattle.tv_glue.specs.Faults.{OnWide, IsCrowded};
 
 use crate::class::class_of;

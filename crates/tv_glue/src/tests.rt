@@ -4,7 +4,7 @@ use crate::full;
 use std::alloc::Global;
 use std::test::Fail;
 use tv_degrees::grade::{GradedWeb, grade};
-use tv_glue_laws::laws;
+use tv_laws_families::laws;
 use tv_graded::Graded;
 use tv_lattice::point::Point;
 use tv_laurent::{Coefficient, LPoly};

@@ -4,7 +4,7 @@ use Rattle.std.specs.Ordering.{int_eq}
 use Rattle.std.proofs.lemmas.Int.{ints}
 use Rattle.std.proofs.lemmas.Bool.Decides.{Decides-int_eq}
 use Rattle.tv_spec_plane.specs.Web.{degree_of}
-use Rattle.tv_terms.proofs.NormalForm.{bool_cases}
+use Rattle.tv_laws_series.proofs.NormalForm.{bool_cases}
 use Rattle.tv_spec_series.specs.Families.{entries_before, comes_before}
 use Rattle.tv_spec_series.proofs.Order.{comes_before_is}
 

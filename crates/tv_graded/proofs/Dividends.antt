@@ -4,10 +4,10 @@ use Rattle.std.specs.List.{AllByRecursion}
 use Rattle.std.proofs.lemmas.Int.{ints, clamps}
 use Rattle.tv_ring.specs.Operations.{Operations, RingLaws}
 use Rattle.tv_ring.specs.Sums.{at}
-use Rattle.tv_terms.specs.Terms.{Terms, upto}
-use Rattle.tv_terms.specs.Series.{IsSeries}
-use Rattle.tv_terms.specs.Quotients.{quotient_upto, series_quotient, IsUnitSeries}
-use Rattle.tv_terms.proofs.Quotients.{length-quotients}
+use Rattle.tv_laws_series.specs.Terms.{Terms, upto}
+use Rattle.tv_laws_series.specs.Series.{IsSeries}
+use Rattle.tv_laws_series.specs.Quotients.{quotient_upto, series_quotient, IsUnitSeries}
+use Rattle.tv_laws_series.proofs.Quotients.{length-quotients}
 use Rattle.tv_laurent.proofs.SeriesResults.{quotient_is_series}
 use Rattle.tv_spec_boxes.specs.Classes.{ClassesRise}
 use Rattle.tv_spec_series.specs.Families.{Row, Family, divided_row, divided, IsRow, IsFamily}

@@ -2,8 +2,8 @@
 use Rattle.std.proofs.Common.{◌≡◌, ℕ, ℤ, true, false, List, length, get_or, set, Some, sym, ◌∙◌, ap, subst}
 use Rattle.std.specs.List.{insert}
 use Rattle.tv_ring.specs.Operations.{Operations, RingLaws}
-use Rattle.tv_terms.specs.Terms.{Terms}
-use Rattle.tv_terms.specs.Series.{series_sum, series_cut}
+use Rattle.tv_laws_series.specs.Terms.{Terms}
+use Rattle.tv_laws_series.specs.Series.{series_sum, series_cut}
 use Rattle.tv_spec_series.specs.Families.{Row, Family, IsRow, IsFamily, IsAddend, row, find, put}
 use Rattle.tv_spec_series.proofs.Rows.{found_class, all_rows}
 use Rattle.tv_spec_series.proofs.Sums.{added_is_family}

@@ -2,7 +2,7 @@
 use Rattle.std.proofs.Common.{◌≡◌, ℕ, zero, suc, ◌+◌, ◌<◌, ◌≤◌, ℤ, true, false, List, [], ◌∷◌, length, get_or, refl, ap, inl, inr, arith}
 use Rattle.std.proofs.lemmas.Bool.{cases_lt}
 use Rattle.tv_lemmas.proofs.Members.{all-at}
-use Rattle.tv_terms.proofs.NormalForm.{bool_cases}
+use Rattle.tv_laws_series.proofs.NormalForm.{bool_cases}
 use Rattle.tv_spec_boxes.specs.Classes.{IsBefore, ClassesRise}
 use Rattle.tv_spec_series.specs.Families.{Row, classes, comes_before}
 use Rattle.tv_spec_series.proofs.Order.{comes_before-true, comes_before_tells, before_trans, rise_tail, first_before}

@@ -1,7 +1,7 @@
 -- What a call tells of a coefficient, as the coefficient of the definitions.
 use Rattle.std.proofs.Common.{◌≡◌, ℤ, sym, ◌∙◌}
 use Rattle.tv_ring.specs.Operations.{Operations}
-use Rattle.tv_terms.specs.Terms.{Terms}
+use Rattle.tv_laws_series.specs.Terms.{Terms}
 use Rattle.tv_laurent.specs.SeriesCalls.{Tells}
 use Rattle.tv_laurent.specs.declared.coefficient.Coefficient.{Coefficient}
 use Rattle.tv_laurent.specs.declared.coefficient.Coefficient.TheVariants.{Beyond, Zero, Is}

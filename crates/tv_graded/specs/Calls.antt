@@ -9,7 +9,7 @@
 use Rattle.std.specs.Prelude.{◌≡◌, ℤ, List, Some, Contains, ⊤}
 use Rattle.std.specs.List.{AllByRecursion}
 use Rattle.tv_ring.specs.Operations.{Operations}
-use Rattle.tv_terms.specs.Terms.{Terms}
+use Rattle.tv_laws_series.specs.Terms.{Terms}
 use Rattle.tv_laurent.specs.SeriesCalls.{IsSumWide}
 use Rattle.tv_laurent.specs.QuotientCalls.{IsQuotientWide}
 use Rattle.tv_lattice.specs.Limits.{IsHeight}

@@ -10,7 +10,7 @@
 -- RowsAreFound          == each row is what is found of its class
 use Rattle.std.specs.Prelude.{◌≡◌, ◌⊎◌, ◌↔◌, ℤ, ◌≤ℤ◌, List, Some, Contains}
 use Rattle.tv_ring.specs.Operations.{Operations}
-use Rattle.tv_terms.specs.Terms.{Terms}
+use Rattle.tv_laws_series.specs.Terms.{Terms}
 use Rattle.tv_spec_series.specs.Families.{Row, Family, row, classes, coefficient, find, added, with_series, coefficient_of, IsFamily, IsAddend}
 
 abbrev pub SumsCommute : {A : Type 0} → (A → Type 0) → Operations A → Type 0

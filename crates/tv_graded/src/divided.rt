@@ -2,7 +2,7 @@
 
 ghost use Rattle.std.specs.Prelude.{◌≡◌, IfOk, IfErr, map};
 ghost use Rattle.std.specs.List.{AllByRecursion};
-ghost use Rattle.tv_terms.specs.Quotients.{IsUnitSeries};
+ghost use Rattle.tv_laws_series.specs.Quotients.{IsUnitSeries};
 ghost use Rattle.tv_laurent.specs.QuotientCalls.{QuotientReaches};
 ghost use Rattle.tv_spec_series.specs.Families.{divided_row};
 ghost use Rattle.tv_graded.specs.Calls.{OnWideClass, IsRowWide, IsAmongWide};

@@ -2,8 +2,8 @@
 
 ghost use Rattle.std.specs.Prelude.{◌≡◌, ◌≤◌, ◌↔◌, ◌≤ℤ◌, pos, length, Some, None, IsNone, IfSome, IfErr, OnOk, OnErr, IfOk, MatchOption, slice_get};
 ghost use Rattle.std.specs.List.{AllByRecursion};
-ghost use Rattle.tv_terms.specs.Terms.{upto, IsWithin};
-ghost use Rattle.tv_terms.specs.Quotients.{quotient_upto, IsUnitSeries};
+ghost use Rattle.tv_laws_series.specs.Terms.{upto, IsWithin};
+ghost use Rattle.tv_laws_series.specs.Quotients.{quotient_upto, IsUnitSeries};
 ghost use Rattle.tv_laurent.specs.SeriesCalls.{OnWide};
 ghost use Rattle.tv_laurent.specs.QuotientCalls.{QuotientReaches};
 ghost use Rattle.tv_lattice.specs.Limits.{IsHeight};

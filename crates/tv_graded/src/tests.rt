@@ -3,7 +3,7 @@
 ghost use Rattle.std.specs.Prelude.{◌≤ℤ◌, IsTrue};
 ghost use Rattle.std.specs.List.{AllByRecursion};
 ghost use Rattle.tv_ring.specs.Whole.{wholes};
-ghost use Rattle.tv_terms.specs.Quotients.{quotient_upto, IsUnitSeries};
+ghost use Rattle.tv_laws_series.specs.Quotients.{quotient_upto, IsUnitSeries};
 
 use crate::{Graded, GradedFault, laws};
 use std::alloc::Global;

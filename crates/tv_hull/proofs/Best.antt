@@ -6,7 +6,7 @@ use Rattle.std.proofs.lemmas.Int.{ints}
 use Rattle.tv_lattice.specs.Limits.{HasCoordinates}
 use Rattle.tv_spec_plane.specs.Plane.{Point, at}
 use Rattle.tv_hull.specs.Ways.{IsAhead, IsKept, IsBest, IsBestOf}
-use Rattle.tv_spec_hull.proofs.Turns.{turn-first, turn-rotate}
+use Rattle.tv_laws_tiling.proofs.Rotations.{turn-first, turn-rotate}
 use Rattle.tv_hull.proofs.Rises.{toward-same}
 use Rattle.tv_hull.proofs.Compare.{small-at, ahead-toward}
 use Rattle.tv_hull.proofs.HalfPlane.{kept_through, kept-back}

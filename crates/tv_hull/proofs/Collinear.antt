@@ -7,7 +7,7 @@ use Rattle.tv_lattice.specs.Limits.{HasCoordinates}
 use Rattle.tv_spec_plane.specs.Plane.{Point, at, turn}
 use Rattle.tv_lemmas.proofs.Signs.{factor-zero}
 use Rattle.tv_hull.specs.Points.{AreDistinct, IsFlat}
-use Rattle.tv_spec_hull.proofs.Turns.{turn-exchange, turn-first, turn-rotate}
+use Rattle.tv_laws_tiling.proofs.Rotations.{turn-exchange, turn-first, turn-rotate}
 use Rattle.tv_hull.proofs.Rises.{toward, by_toward, turn-from}
 use Rattle.tv_hull.proofs.Compare.{small-at, toward-level}
 

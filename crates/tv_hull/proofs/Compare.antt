@@ -5,7 +5,7 @@ use Rattle.std.proofs.Common.{ap, ◌∙◌, arith, inl, inr}
 use Rattle.std.proofs.lemmas.Int.{ints}
 use Rattle.tv_lattice.specs.Limits.{HasCoordinates}
 use Rattle.tv_spec_plane.specs.Plane.{Point, at}
-use Rattle.tv_spec_hull.specs.Hull.{IsLess}
+use Rattle.tv_laws_tiling.specs.Hull.{IsLess}
 use Rattle.tv_lemmas.proofs.Signs.{sign}
 use Rattle.tv_hull.specs.Ways.{IsAhead}
 use Rattle.tv_hull.proofs.Rises.{rise, toward}

@@ -3,7 +3,7 @@ use Rattle.std.specs.Prelude.{◌≡◌, ℕ, ◌+◌, ◌<◌, ◌≤◌, List,
 use Rattle.std.proofs.Common.{subst, ◌∙◌, arith, inl, inr}
 use Rattle.std.proofs.lemmas.Int.{ints}
 use Rattle.tv_spec_plane.specs.Plane.{Point, at}
-use Rattle.tv_spec_hull.specs.Hull.{IsLess, IsLeast}
+use Rattle.tv_laws_tiling.specs.Hull.{IsLess, IsLeast}
 use Rattle.tv_hull.proofs.Best.{below_or_last}
 
 pub less_through : (p q r : Point) → IsLess p q → IsLess q r → IsLess p r

@@ -5,13 +5,13 @@ use Rattle.std.proofs.Common.{subst, sym, refl, arith, inl, inr}
 use Rattle.std.proofs.lemmas.Int.{ints}
 use Rattle.tv_lattice.specs.Limits.{HasCoordinates}
 use Rattle.tv_spec_plane.specs.Plane.{Point, at, turn, Segment, IsHullSegment}
-use Rattle.tv_spec_hull.specs.Members.{Among, Once}
-use Rattle.tv_spec_hull.proofs.Members.{among-append, append-among_left, append-among_right, once-append}
-use Rattle.tv_spec_hull.specs.Hull.{IsLeast, IsClimb, IsDescent, IsRound, IsHull}
+use Rattle.tv_laws_tiling.specs.Members.{Among, Once}
+use Rattle.tv_laws_tiling.proofs.Members.{among-append, append-among_left, append-among_right, once-append}
+use Rattle.tv_laws_tiling.specs.Hull.{IsLeast, IsClimb, IsDescent, IsRound, IsHull}
 use Rattle.tv_lemmas.proofs.Signs.{sign}
 use Rattle.tv_hull.specs.Points.{AreDistinct}
 use Rattle.tv_hull.specs.Ways.{IsEnd, IsStart, IsWay, IsRun}
-use Rattle.tv_spec_hull.proofs.Turns.{turn-exchange}
+use Rattle.tv_laws_tiling.proofs.Rotations.{turn-exchange}
 use Rattle.tv_hull.proofs.Rises.{toward, toward-back, toward-add, toward-same, toward-opposite}
 use Rattle.tv_hull.proofs.Compare.{small-at, ahead-toward, not_ahead-toward, toward-level}
 use Rattle.tv_hull.proofs.HalfPlane.{overlap}

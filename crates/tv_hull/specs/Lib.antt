@@ -3,5 +3,5 @@ pub mod Points
 pub mod Ways
 pub mod Faults
 pub use Rattle.tv_spec_plane.specs.Plane
-pub use Rattle.tv_spec_hull.specs.Members
-pub use Rattle.tv_spec_hull.specs.Hull
+pub use Rattle.tv_laws_tiling.specs.Members
+pub use Rattle.tv_laws_tiling.specs.Hull

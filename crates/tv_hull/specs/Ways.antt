@@ -10,8 +10,8 @@
 -- IsRun ps down a ss b == such a way of hull segments, to a listed point with none ahead
 use Rattle.std.specs.Prelude.{◌≡◌, ℕ, ◌<◌, pos, ◌<ℤ◌, ◌⊎◌, Bool, true, false, List, [], ◌∷◌, length, Option, Some, None}
 use Rattle.tv_spec_plane.specs.Plane.{Point, at, turn, Segment, IsHullSegment}
-use Rattle.tv_spec_hull.specs.Members.{Among}
-use Rattle.tv_spec_hull.specs.Hull.{IsLess}
+use Rattle.tv_laws_tiling.specs.Members.{Among}
+use Rattle.tv_laws_tiling.specs.Hull.{IsLess}
 
 abbrev pub IsAhead : Bool → Point → Point → Type 0
 IsAhead false p q = IsLess p q

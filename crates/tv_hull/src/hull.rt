@@ -3,7 +3,7 @@
 ghost use Rattle.std.specs.Prelude.{◌<◌, ◌≤◌, length, IfOk, MatchResult};
 ghost use Rattle.std.specs.List.{AllByRecursion};
 ghost use Rattle.tv_lattice.specs.Limits.{HasCoordinates};
-ghost use Rattle.tv_spec_hull.specs.Hull.{IsHull};
+ghost use Rattle.tv_laws_tiling.specs.Hull.{IsHull};
 ghost use Rattle.tv_hull.specs.Points.{AreDistinct, IsFlat};
 ghost use Rattle.tv_hull.specs.Faults.{IsFault};
 

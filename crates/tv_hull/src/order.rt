@@ -1,7 +1,7 @@
 //! The order of points by x, then y, and what it makes of a way up or down. It compares points and lists none.
 
 ghost use Rattle.std.specs.Prelude.{◌↔◌, IsTrue};
-ghost use Rattle.tv_spec_hull.specs.Hull.{IsLess};
+ghost use Rattle.tv_laws_tiling.specs.Hull.{IsLess};
 ghost use Rattle.tv_hull.specs.Ways.{IsAhead};
 
 use tv_lattice::point::Point;

@@ -4,7 +4,7 @@ ghost use Rattle.std.specs.Prelude.{◌≡◌, ◌<◌, ◌≤◌, ◌+◌, ◌�
 ghost use Rattle.std.specs.List.{AllByRecursion};
 ghost use Rattle.tv_spec_plane.specs.Plane.{at as point};
 ghost use Rattle.tv_lattice.specs.Limits.{HasCoordinates};
-ghost use Rattle.tv_spec_hull.specs.Hull.{IsLess, IsLeast};
+ghost use Rattle.tv_laws_tiling.specs.Hull.{IsLess, IsLeast};
 ghost use Rattle.tv_hull.specs.Ways.{IsAhead, IsKept, IsBest, IsBestOf};
 
 use crate::order::{is_ahead, is_less};

@@ -6,7 +6,7 @@ use Rattle.tv_ring.proofs.Rings.{mul-nought, nought-mul}
 use Rattle.tv_ring.proofs.Sums.{sum_below-more, sum-nought, value_sum, total_below-more, total_below-fewer}
 use Rattle.tv_ring.proofs.Products.{term_is, size_term_is, convolution_is, size_convolution_is, value_term}
 use Rattle.tv_ring.proofs.Sizes.{size-terms}
-use Rattle.tv_terms.proofs.Listed.{at_past}
+use Rattle.tv_laws_series.proofs.Listed.{at_past}
 
 module _ {A : Type 0} {IsValue : A → Type 0} {r : Operations A} (laws : RingLaws IsValue r) (xs ys : List A) (v : AreValues IsValue (at r xs)) (w : AreValues IsValue (at r ys)) (k : ℕ) where
   -- terms that are nought add nothing

@@ -7,11 +7,11 @@ use Rattle.tv_ring.proofs.Rings.{nought-mul}
 use Rattle.tv_ring.proofs.Sums.{sum_below-none, sum_below-more, value_sum, total_below-more, total_below-same}
 use Rattle.tv_ring.proofs.Products.{term_is, size_term_is, convolution_is, size_convolution_is, value_term}
 use Rattle.tv_ring.proofs.Sizes.{size-terms}
-use Rattle.tv_terms.specs.Quotients.{owed, quotients}
-use Rattle.tv_terms.proofs.Listed.{at_past}
-use Rattle.tv_terms.specs.Polynomials.{greatest_below}
-use Rattle.tv_terms.proofs.PolyReach.{greatest-none, greatest-more, greatest_bounds}
-use Rattle.tv_terms.proofs.Quotients.{quotient, owed_is, length-quotients, at-quotients, value_quotient, value_quotients, quotient-next}
+use Rattle.tv_laws_series.specs.Quotients.{owed, quotients}
+use Rattle.tv_laws_series.proofs.Listed.{at_past}
+use Rattle.tv_laws_series.specs.Polynomials.{greatest_below}
+use Rattle.tv_laws_series.proofs.PolyReach.{greatest-none, greatest-more, greatest_bounds}
+use Rattle.tv_laws_series.proofs.Quotients.{quotient, owed_is, length-quotients, at-quotients, value_quotient, value_quotients, quotient-next}
 use Rattle.tv_laurent.specs.SeriesCalls.{ReachesAddUp}
 use Rattle.tv_laurent.specs.QuotientCalls.{ReachesAddUpTimes, owed_size, quotient_size}
 

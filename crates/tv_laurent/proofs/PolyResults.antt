@@ -8,14 +8,14 @@ use Rattle.tv_ring.specs.Operations.{Operations, RingLaws, SizeLaws, limit, reac
 use Rattle.tv_ring.specs.Sums.{AreValues, at, convolution, size_convolution}
 use Rattle.tv_ring.specs.declared.fault.RingFault.{RingFault}
 use Rattle.tv_ring.specs.declared.fault.RingFault.TheVariants as ring
-use Rattle.tv_terms.specs.Terms.{Terms, terms, above, padded, from, known, listed, plus, IsWithin}
-use Rattle.tv_terms.specs.Polynomials.{normal, negatives, row_size, IsKept, poly_reach, poly_sum, poly_product, poly_negative}
-use Rattle.tv_terms.proofs.Listed.{length-listed, length-between, at-between}
-use Rattle.tv_terms.proofs.SeriesFrom.{value_listed}
-use Rattle.tv_terms.proofs.PolyFrom.{value_sum_row, value_product_row, value_negatives}
-use Rattle.tv_terms.proofs.PolySizes.{size-padded, size_convolution-row}
-use Rattle.tv_terms.proofs.PolyReach.{reach-poly_sum, reach-poly_product, reach-poly_negative}
-use Rattle.tv_terms.proofs.PolyKept.{low_within, length_within, coefficient_reach, all_nought, normal_between}
+use Rattle.tv_laws_series.specs.Terms.{Terms, terms, above, padded, from, known, listed, plus, IsWithin}
+use Rattle.tv_laws_series.specs.Polynomials.{normal, negatives, row_size, IsKept, poly_reach, poly_sum, poly_product, poly_negative}
+use Rattle.tv_laws_series.proofs.Listed.{length-listed, length-between, at-between}
+use Rattle.tv_laws_series.proofs.SeriesFrom.{value_listed}
+use Rattle.tv_laws_series.proofs.PolyFrom.{value_sum_row, value_product_row, value_negatives}
+use Rattle.tv_laws_series.proofs.PolySizes.{size-padded, size_convolution-row}
+use Rattle.tv_laws_series.proofs.PolyReach.{reach-poly_sum, reach-poly_product, reach-poly_negative}
+use Rattle.tv_laws_series.proofs.PolyKept.{low_within, length_within, coefficient_reach, all_nought, normal_between}
 use Rattle.tv_laurent.specs.SeriesCalls.{IsWideAt, OnWide, ReachesAddUp, sum_size}
 use Rattle.tv_laurent.specs.Faults.{IsWithoutExponent}
 use Rattle.tv_laurent.specs.PolyCalls.{outward}

@@ -4,12 +4,12 @@ use Rattle.std.proofs.lemmas.Int.{ints, clamps}
 use Rattle.std.proofs.lemmas.List.{length-take}
 use Rattle.tv_ring.specs.Operations.{Operations, RingLaws}
 use Rattle.tv_ring.specs.Sums.{at}
-use Rattle.tv_terms.specs.Terms.{Terms, above, upto, IsWithin, IsBounded}
-use Rattle.tv_terms.specs.Series.{series_shift, series_cut, IsSeries}
-use Rattle.tv_terms.specs.Quotients.{IsUnitSeries}
+use Rattle.tv_laws_series.specs.Terms.{Terms, above, upto, IsWithin, IsBounded}
+use Rattle.tv_laws_series.specs.Series.{series_shift, series_cut, IsSeries}
+use Rattle.tv_laws_series.specs.Quotients.{IsUnitSeries}
 use Rattle.tv_laurent.specs.SeriesCalls.{sum_size, scale_size}
-use Rattle.tv_terms.proofs.Exponents.{above_is}
-use Rattle.tv_terms.proofs.Listed.{at-take, values_all}
+use Rattle.tv_laws_series.proofs.Exponents.{above_is}
+use Rattle.tv_laws_series.proofs.Listed.{at-take, values_all}
 
 pub same_series : {A : Type 0} {IsValue : A → Type 0} {r : Operations A} (a b : Terms A) → a ≡ b → IsSeries IsValue r b → IsSeries IsValue r a
 same_series {IsValue} {r} a b e s = subst (IsSeries IsValue r) (sym e) s

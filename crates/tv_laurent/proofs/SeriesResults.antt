@@ -4,19 +4,19 @@ use Rattle.std.specs.Int.{int_min}
 use Rattle.std.proofs.lemmas.Int.{ints, clamps}
 use Rattle.tv_ring.specs.Operations.{Operations, RingLaws}
 use Rattle.tv_ring.specs.Sums.{at, convolution, size_convolution}
-use Rattle.tv_terms.specs.Terms.{Terms, terms, above, padded, from, known, listed, plus, scaled, IsWithin, IsBounded}
-use Rattle.tv_terms.specs.Series.{series_sum, product_upto, series_product, series_scale, IsSeries}
+use Rattle.tv_laws_series.specs.Terms.{Terms, terms, above, padded, from, known, listed, plus, scaled, IsWithin, IsBounded}
+use Rattle.tv_laws_series.specs.Series.{series_sum, product_upto, series_product, series_scale, IsSeries}
 use Rattle.tv_laurent.specs.SeriesCalls.{IsWideAt, IsSumWide, IsProductWide, sum_size, OnWide}
-use Rattle.tv_terms.specs.Quotients.{quotients, series_quotient, IsUnitSeries}
+use Rattle.tv_laws_series.specs.Quotients.{quotients, series_quotient, IsUnitSeries}
 use Rattle.tv_laurent.specs.QuotientCalls.{ReachesAddUpTimes, quotient_size, QuotientReaches, IsQuotientWide}
 use Rattle.tv_laurent.specs.declared.fault.SeriesFault.{SeriesFault}
 use Rattle.tv_laurent.specs.declared.fault.SeriesFault.TheVariants.{Wide, Memory}
-use Rattle.tv_terms.proofs.Exponents.{above_is}
-use Rattle.tv_terms.proofs.Listed.{length-listed}
-use Rattle.tv_terms.proofs.Padded.{value_scaled}
-use Rattle.tv_terms.proofs.SeriesFrom.{terms-same, value_listed, value_series_sum, value_series_product}
-use Rattle.tv_terms.proofs.Quotients.{length-quotients}
-use Rattle.tv_terms.proofs.SeriesQuotients.{value_series_quotient}
+use Rattle.tv_laws_series.proofs.Exponents.{above_is}
+use Rattle.tv_laws_series.proofs.Listed.{length-listed}
+use Rattle.tv_laws_series.proofs.Padded.{value_scaled}
+use Rattle.tv_laws_series.proofs.SeriesFrom.{terms-same, value_listed, value_series_sum, value_series_product}
+use Rattle.tv_laws_series.proofs.Quotients.{length-quotients}
+use Rattle.tv_laws_series.proofs.SeriesQuotients.{value_series_quotient}
 
 pub from_padded : {A : Type 0} (r : Operations A) (m : ℤ) (t : Terms A) → from r m t ≡ padded r (above m t.low) (at r t.coefficients)
 unfolding from

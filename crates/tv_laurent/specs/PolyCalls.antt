@@ -4,8 +4,8 @@
 --   outward r low f k    == the absolute exponent low + k and the reach of the coefficient there, nought or not
 use Rattle.std.specs.Prelude.{ℕ, ◌+◌, ℤ, pos, ◌+ℤ◌, unsigned_abs, [], ◌∷◌}
 use Rattle.tv_ring.specs.Operations.{Operations}
-use Rattle.tv_terms.specs.Terms.{Terms}
-use Rattle.tv_terms.specs.Polynomials.{normal}
+use Rattle.tv_laws_series.specs.Terms.{Terms}
+use Rattle.tv_laws_series.specs.Polynomials.{normal}
 
 abbrev pub poly_term : {A : Type 0} → Operations A → ℤ → A → Terms A
 poly_term r n c = normal r n (c ∷ [])

@@ -8,8 +8,8 @@
 use Rattle.std.specs.Prelude.{ℕ, ◌+◌, ◌*◌, ◌<◌, ◌≤◌, ℤ, min, List, length}
 use Rattle.tv_ring.specs.Operations.{Operations, reach_limit}
 use Rattle.tv_ring.specs.Sums.{at, size_term, total_below}
-use Rattle.tv_terms.specs.Terms.{Terms}
-use Rattle.tv_terms.specs.Quotients.{series_quotient}
+use Rattle.tv_laws_series.specs.Terms.{Terms}
+use Rattle.tv_laws_series.specs.Quotients.{series_quotient}
 use Rattle.tv_laurent.specs.SeriesCalls.{IsWideAt}
 
 abbrev pub ReachesAddUpTimes : {A : Type 0} → Operations A → ℕ → List A → List A → Type 0

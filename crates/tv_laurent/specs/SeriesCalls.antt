@@ -14,7 +14,7 @@ use Rattle.std.specs.Prelude.{◌≡◌, ℕ, ◌+◌, ◌*◌, ◌<◌, ◌≤�
 use Rattle.std.specs.Int.{int_min}
 use Rattle.tv_ring.specs.Operations.{Operations, limit, reach_limit}
 use Rattle.tv_ring.specs.Sums.{at, size_convolution}
-use Rattle.tv_terms.specs.Terms.{Terms, above, upto, from, known}
+use Rattle.tv_laws_series.specs.Terms.{Terms, above, upto, from, known}
 use Rattle.tv_laurent.specs.declared.coefficient.Coefficient.{Coefficient}
 use Rattle.tv_laurent.specs.declared.coefficient.Coefficient.TheVariants.{Beyond, Zero, Is}
 use Rattle.tv_laurent.specs.declared.fault.SeriesFault.{SeriesFault}

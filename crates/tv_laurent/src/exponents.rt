@@ -2,7 +2,7 @@
 //! They are bounded, so that none of them overflows.
 
 ghost use Rattle.std.specs.Prelude.{◌≡◌, ◌≤◌, ◌^◌, ◌≤ℤ◌};
-ghost use Rattle.tv_terms.specs.Terms.{above, IsWithin};
+ghost use Rattle.tv_laws_series.specs.Terms.{above, IsWithin};
 
 /// How many exponents there are from one up to another.
 pub(crate) fn places(from: i64, to: i64) -> usize

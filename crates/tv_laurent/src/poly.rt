@@ -4,10 +4,10 @@
 ghost use Rattle.std.specs.Prelude.{◌≡◌, ℕ, ◌+◌, ◌-◌, ◌^◌, ◌<◌, ◌≤◌, ◌≤ℤ◌, ◌<ℤ◌, ◌⊎◌, ◌∷◌, [], IfOk, IsErrOf, IsOkUnless, IsTrue, ◌↔◌, MatchOption, length, unsigned_abs, pos, ◌+ℤ◌};
 ghost use Rattle.tv_ring.specs.Operations.{limit, reach_limit};
 ghost use Rattle.tv_ring.specs.Sums.{at, AreValues};
-ghost use Rattle.tv_terms.specs.Terms.{terms, above, upto, listed, IsWithin};
-ghost use Rattle.tv_terms.specs.Polynomials.{normal as normal_form, negatives, poly_zero, poly_reach, greatest_below, polynomials, IsPoly, IsKept};
-ghost use Rattle.tv_terms.proofs.PolyRing.{poly_laws};
-ghost use Rattle.tv_terms.proofs.PolySizeLaws.{poly_size_laws};
+ghost use Rattle.tv_laws_series.specs.Terms.{terms, above, upto, listed, IsWithin};
+ghost use Rattle.tv_laws_series.specs.Polynomials.{normal as normal_form, negatives, poly_zero, poly_reach, greatest_below, polynomials, IsPoly, IsKept};
+ghost use Rattle.tv_laws_series.proofs.PolyRing.{poly_laws};
+ghost use Rattle.tv_laws_series.proofs.PolySizeLaws.{poly_size_laws};
 ghost use Rattle.tv_laurent.specs.PolyCalls.{poly_term, outward};
 
 use crate::exponents::places;
@@ -29,8 +29,8 @@ pub struct LPoly<C: Ring> {
 }
 
 impl<C: Ring> Model for LPoly<C> {
-    ghost use Rattle.tv_terms.specs.Terms.{Terms, terms};
-    ghost use Rattle.tv_terms.specs.Polynomials.{IsKept};
+    ghost use Rattle.tv_laws_series.specs.Terms.{Terms, terms};
+    ghost use Rattle.tv_laws_series.specs.Polynomials.{IsKept};
 
     ghost Value = { Terms C };
 

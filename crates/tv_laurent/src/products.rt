@@ -4,7 +4,7 @@
 ghost use Rattle.std.specs.Prelude.{◌≡◌, ◌+◌, ◌^◌, ◌<◌, ◌≤◌, IfOk, IfErr, IsErrOf, length};
 ghost use Rattle.tv_ring.specs.Operations.{limit};
 ghost use Rattle.tv_ring.specs.Sums.{at, AreValues, convolution, size_convolution};
-ghost use Rattle.tv_terms.specs.Terms.{listed, scaled, IsWithin};
+ghost use Rattle.tv_laws_series.specs.Terms.{listed, scaled, IsWithin};
 ghost use Rattle.tv_laurent.specs.SeriesCalls.{IsWideAt, OnWide, ReachesAddUp, ReachesAddTo, scale_size};
 
 use crate::fault::{SeriesFault, fault_at};

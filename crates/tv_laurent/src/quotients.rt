@@ -4,8 +4,8 @@
 ghost use Rattle.std.specs.Prelude.{◌≡◌, ◌+◌, ◌^◌, ◌<◌, ◌≤◌, IfOk, IfErr, IsErrOf, length};
 ghost use Rattle.tv_ring.specs.Operations.{limit};
 ghost use Rattle.tv_ring.specs.Sums.{at, AreValues};
-ghost use Rattle.tv_terms.specs.Terms.{IsWithin};
-ghost use Rattle.tv_terms.specs.Quotients.{owed, quotients};
+ghost use Rattle.tv_laws_series.specs.Terms.{IsWithin};
+ghost use Rattle.tv_laws_series.specs.Quotients.{owed, quotients};
 ghost use Rattle.tv_laurent.specs.SeriesCalls.{IsWideAt, OnWide, ReachesAddUp};
 ghost use Rattle.tv_laurent.specs.QuotientCalls.{ReachesAddUpTimes, owed_size, quotient_size};
 

@@ -3,9 +3,9 @@
 
 ghost use Rattle.std.specs.Prelude.{◌≡◌, ◌+◌, ◌-◌, ◌<◌, ◌≤◌, ◌+ℤ◌, ◌≤ℤ◌, ◌^◌, pos, min, length, IfOk, IfErr};
 ghost use Rattle.tv_ring.specs.Sums.{at, AreValues};
-ghost use Rattle.tv_terms.specs.Terms.{terms, above, upto, IsWithin, IsBounded};
-ghost use Rattle.tv_terms.specs.Series.{series_sum, product_upto, series_product, series_scale, series_shift, series_cut, IsSeries};
-ghost use Rattle.tv_terms.specs.Quotients.{series_quotient, IsUnitSeries};
+ghost use Rattle.tv_laws_series.specs.Terms.{terms, above, upto, IsWithin, IsBounded};
+ghost use Rattle.tv_laws_series.specs.Series.{series_sum, product_upto, series_product, series_scale, series_shift, series_cut, IsSeries};
+ghost use Rattle.tv_laws_series.specs.Quotients.{series_quotient, IsUnitSeries};
 ghost use Rattle.tv_laurent.specs.QuotientCalls.{QuotientReaches, IsQuotientWide};
 ghost use Rattle.tv_laurent.specs.SeriesCalls.{Tells, ReachesAddUp, ReachesAddTo, OnWide, IsSumWide, IsProductWide, IsMultipleWide};
 
@@ -28,8 +28,8 @@ pub struct Series<C: Ring> {
 }
 
 impl<C: Ring> Model for Series<C> {
-    ghost use Rattle.tv_terms.specs.Terms.{Terms, terms};
-    ghost use Rattle.tv_terms.specs.Series.{IsSeries};
+    ghost use Rattle.tv_laws_series.specs.Terms.{Terms, terms};
+    ghost use Rattle.tv_laws_series.specs.Series.{IsSeries};
 
     ghost Value = { Terms C };
 

@@ -4,7 +4,7 @@
 ghost use Rattle.std.specs.Prelude.{◌≡◌, ◌+◌, ◌^◌, ◌<◌, ◌≤◌, IfOk, IfErr, IsErrOf, MatchOption};
 ghost use Rattle.tv_ring.specs.Operations.{limit};
 ghost use Rattle.tv_ring.specs.Sums.{at, AreValues};
-ghost use Rattle.tv_terms.specs.Terms.{padded, listed, plus, IsWithin};
+ghost use Rattle.tv_laws_series.specs.Terms.{padded, listed, plus, IsWithin};
 ghost use Rattle.tv_laurent.specs.SeriesCalls.{IsWideAt, OnWide, sum_size};
 
 use crate::fault::{SeriesFault, fault_at};

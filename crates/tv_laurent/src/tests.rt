@@ -8,7 +8,7 @@ use crate::{Coefficient, LPoly, Series, SeriesFault};
 use std::alloc::Global;
 use std::test::Fail;
 use tv_ring::{Residue, Ring, RingFault, Whole};
-use tv_terms::laws;
+use tv_laws_series::laws;
 
 // 2^126
 const HALF: i128 = 85070591730234615865843651857942052864;

@@ -72,3 +72,13 @@ pub mul-swap : (a b : ℤ) → a *ℤ b ≡ b *ℤ a
 mul-swap a b =
     let r = diff_of a in let s = diff_of b in
     rw (r.2, s.2) (simp diffs (diff-same _ _ _ _ (omega arith)))
+
+pub mul-add : (a b c : ℤ) → a *ℤ (b +ℤ c) ≡ (a *ℤ b) +ℤ (a *ℤ c)
+mul-add a b c =
+    let r = diff_of a in let s = diff_of b in let t = diff_of c in
+    rw (r.2, s.2, t.2) (simp diffs (diff-same _ _ _ _ (omega arith)))
+
+pub neg-mul : (a b : ℤ) → neg_ℤ a *ℤ b ≡ neg_ℤ (a *ℤ b)
+neg-mul a b =
+    let r = diff_of a in let s = diff_of b in
+    rw (r.2, s.2) (simp diffs (diff-same _ _ _ _ (omega arith)))

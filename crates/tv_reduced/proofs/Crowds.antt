@@ -10,8 +10,8 @@ use Rattle.tv_spec_plane.specs.Web.{Web, compact, degree_of}
 use Rattle.tv_spec_boxes.specs.Assignments.{no_legs, all_legs, zeros, class_of, weight, assignments, same_vector, assignments_of}
 use Rattle.tv_spec_boxes.specs.Numbers.{lowest, box_bound, crowd_on, sum_of, crowd}
 use Rattle.tv_spec_boxes.proofs.Vectors.{same_vector_tells}
-use Rattle.tv_reduced_laws.proofs.ZeroClass.{nothing, assignments-none, class_on-nothing}
-use Rattle.tv_reduced_laws.proofs.ZeroCrowd.{zero_crowd}
+use Rattle.tv_laws_families.proofs.ZeroClass.{nothing, assignments-none, class_on-nothing}
+use Rattle.tv_laws_families.proofs.ZeroCrowd.{zero_crowd}
 use Rattle.tv_glue.specs.Faults.{IsCrowded}
 
 -- of another class than zero there is none in degree 0

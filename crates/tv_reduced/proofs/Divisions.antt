@@ -6,15 +6,15 @@ use Rattle.std.specs.List.{AllByRecursion}
 use Rattle.std.proofs.lemmas.Int.{ints, clamps}
 use Rattle.tv_ring.specs.Operations.{Operations, RingLaws, SizeLaws, limit}
 use Rattle.tv_ring.specs.Sums.{at, size_term, total_below}
-use Rattle.tv_terms.specs.Terms.{Terms, upto}
-use Rattle.tv_terms.specs.SeriesLaws.{HasValues}
-use Rattle.tv_terms.specs.Quotients.{quotient_upto, series_quotient}
+use Rattle.tv_laws_series.specs.Terms.{Terms, upto}
+use Rattle.tv_laws_series.specs.SeriesLaws.{HasValues}
+use Rattle.tv_laws_series.specs.Quotients.{quotient_upto, series_quotient}
 use Rattle.tv_laurent.specs.QuotientCalls.{QuotientReaches, IsQuotientWide}
 use Rattle.tv_laurent.proofs.Divided.{owed_size_is, quotient_size_is}
 use Rattle.tv_spec_plane.specs.declared.records.OuterEdge.{OuterEdge}
 use Rattle.tv_spec_plane.specs.Web.{Web, outer}
 use Rattle.tv_partition.specs.Rows.{IsDiagram}
-use Rattle.tv_degrees.specs.Grades.{IsGraded}
+use Rattle.tv_spec_plane.specs.Graded.{IsGraded}
 use Rattle.tv_spec_boxes.specs.Assignments.{no_legs, same_vector}
 use Rattle.tv_spec_boxes.specs.Classes.{IsClass}
 use Rattle.tv_spec_boxes.specs.Numbers.{lowest}
@@ -23,12 +23,12 @@ use Rattle.tv_spec_series.specs.Reduced.{full_coefficient, zero_coefficient, quo
 use Rattle.tv_lemmas.proofs.Members.{all-onto, all-both}
 use Rattle.tv_spec_boxes.proofs.Vectors.{same_vector_tells}
 use Rattle.tv_graded.specs.Calls.{IsDividedWide}
-use Rattle.tv_glue_laws.specs.Full.{IsFullRow, IsFull}
-use Rattle.tv_reduced_laws.specs.Families.{IsDivisor}
-use Rattle.tv_reduced_laws.specs.Laws.{HasUnit}
-use Rattle.tv_reduced_laws.proofs.Families.{Reaches, row_given}
-use Rattle.tv_reduced_laws.proofs.Rows.{IsGiven, quotient_from, given_quotient, given_quotient-low}
-use Rattle.tv_reduced_laws.proofs.Spread.{spread-wide}
+use Rattle.tv_spec_series.specs.Full.{IsFullRow, IsFull}
+use Rattle.tv_spec_series.specs.ReducedFamilies.{IsDivisor}
+use Rattle.tv_laws_families.specs.Laws.{HasUnit}
+use Rattle.tv_laws_families.proofs.ReducedFamilies.{Reaches, row_given}
+use Rattle.tv_laws_families.proofs.Rows.{IsGiven, quotient_from, given_quotient, given_quotient-low}
+use Rattle.tv_laws_families.proofs.Spread.{spread-wide}
 use Rattle.tv_reduced.specs.declared.fault.ReducedFault.{ReducedFault}
 use Rattle.tv_reduced.specs.declared.fault.ReducedFault.TheVariants.{Crowd, Spread, Memory}
 use Rattle.tv_glue.specs.Faults.{IsCrowded}

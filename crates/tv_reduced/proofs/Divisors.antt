@@ -5,17 +5,17 @@ use Rattle.std.proofs.lemmas.Int.{ints}
 use Rattle.tv_ring.specs.Operations.{Operations, RingLaws}
 use Rattle.tv_ring.specs.Sums.{at, whole_times}
 use Rattle.tv_ring.proofs.Times.{times-none, times-one, whole_times-pos}
-use Rattle.tv_terms.specs.Terms.{Terms, above, upto, listed}
-use Rattle.tv_terms.proofs.Exponents.{above_is}
-use Rattle.tv_terms.proofs.Listed.{length-listed, at-listed}
+use Rattle.tv_laws_series.specs.Terms.{Terms, above, upto, listed}
+use Rattle.tv_laws_series.proofs.Exponents.{above_is}
+use Rattle.tv_laws_series.proofs.Listed.{length-listed, at-listed}
 use Rattle.tv_spec_plane.specs.Web.{Web}
-use Rattle.tv_degrees.specs.Grades.{IsGraded}
+use Rattle.tv_spec_plane.specs.Graded.{IsGraded}
 use Rattle.tv_spec_boxes.specs.Assignments.{no_legs}
 use Rattle.tv_spec_series.specs.Families.{coefficient}
 use Rattle.tv_spec_series.specs.Reduced.{zero_coefficient}
 use Rattle.tv_spec_series.proofs.Coefficients.{coefficient_below, coefficient_at}
-use Rattle.tv_reduced_laws.specs.Families.{IsDivisor}
-use Rattle.tv_reduced_laws.proofs.ZeroClass.{begins_with_one}
+use Rattle.tv_spec_series.specs.ReducedFamilies.{IsDivisor}
+use Rattle.tv_laws_families.proofs.ZeroClass.{begins_with_one}
 use Rattle.tv_reduced.specs.Divisors.{counted, from_zero}
 
 pub counted_is : {A : Type 0} (r : Operations A) (s : Terms A) (j : ℕ) → counted r s j ≡ coefficient r s (pos j)

@@ -5,13 +5,13 @@ use Rattle.std.specs.Int.{int_max}
 use Rattle.std.specs.List.{AllByRecursion}
 use Rattle.std.proofs.lemmas.Int.{ints, clamps}
 use Rattle.tv_ring.specs.Operations.{Operations}
-use Rattle.tv_terms.specs.Terms.{Terms, upto}
+use Rattle.tv_laws_series.specs.Terms.{Terms, upto}
 use Rattle.tv_spec_plane.specs.Web.{Web}
 use Rattle.tv_spec_boxes.specs.Assignments.{no_legs}
 use Rattle.tv_spec_boxes.specs.Numbers.{lowest}
 use Rattle.tv_spec_series.specs.Families.{Family}
-use Rattle.tv_glue_laws.specs.Full.{IsFull}
-use Rattle.tv_reduced_laws.proofs.Families.{Reaches}
+use Rattle.tv_spec_series.specs.Full.{IsFull}
+use Rattle.tv_laws_families.proofs.ReducedFamilies.{Reaches}
 use Rattle.tv_reduced.specs.Orders.{IsOrder}
 use Rattle.tv_reduced.proofs.Divisions.{order_most, rows_reached}
 

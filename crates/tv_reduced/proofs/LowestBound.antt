@@ -13,14 +13,14 @@ use Rattle.tv_spec_plane.specs.Web.{Web, compact, outer, corners, corner_of, nor
 use Rattle.tv_partition.specs.Rows.{IsSmall}
 use Rattle.tv_cells.specs.Costs.{overlap_cost}
 use Rattle.tv_lattice.specs.Limits.{HasCoordinates}
-use Rattle.tv_edge_laws.specs.Rule.{HasRule, HasEdgeRule}
-use Rattle.tv_degrees.specs.Grades.{IsGraded}
+use Rattle.tv_laws_edges.specs.Rule.{HasRule, HasEdgeRule}
+use Rattle.tv_spec_plane.specs.Graded.{IsGraded}
 use Rattle.tv_degrees.proofs.Bounds.{normal_a-small, normal_b-small}
 use Rattle.tv_spec_boxes.specs.Assignments.{Rows, Assignment, no_legs, rows_at, legs_of, overlaps_of, assignments}
 use Rattle.tv_spec_boxes.specs.Numbers.{falls_on, low_of, least, lowest}
-use Rattle.tv_gluing.specs.Ways.{IsListed, IsAtMost}
+use Rattle.tv_laws_counts.specs.Ways.{IsListed, IsAtMost}
 use Rattle.tv_lemmas.proofs.Members.{all-both, all-onto, all-members, all-everywhere}
-use Rattle.tv_gluing.proofs.Degrees.{assignments_listed}
+use Rattle.tv_laws_counts.proofs.Degrees.{assignments_listed}
 use Rattle.tv_assignment.specs.Terms.{cells_of}
 use Rattle.tv_assignment.proofs.Bounded.{edge_cost-small, overlap_cost-small, extent-small}
 use Rattle.tv_assignment.proofs.Listed.{listed-few}

@@ -6,8 +6,8 @@ use Rattle.tv_ring.specs.Operations.{Operations, RingLaws, SizeLaws}
 use Rattle.tv_ring.specs.Sums.{at, times, whole_times}
 use Rattle.tv_ring.proofs.Times.{whole_times-pos, whole_times-negsuc, value_times}
 use Rattle.tv_ring.proofs.Sizes.{reach-times}
-use Rattle.tv_terms.specs.Terms.{Terms, above, upto}
-use Rattle.tv_terms.proofs.Exponents.{above_is}
+use Rattle.tv_laws_series.specs.Terms.{Terms, above, upto}
+use Rattle.tv_laws_series.proofs.Exponents.{above_is}
 use Rattle.tv_laurent.specs.QuotientCalls.{QuotientReaches}
 use Rattle.tv_spec_series.specs.Families.{coefficient}
 use Rattle.tv_spec_series.proofs.Coefficients.{coefficient_at}

@@ -8,8 +8,8 @@ use Rattle.tv_spec_boxes.specs.Assignments.{zeros, class_of, assignments, no_leg
 use Rattle.tv_spec_boxes.specs.Classes.{IsClass}
 use Rattle.tv_spec_series.specs.Families.{Row, Family, classes}
 use Rattle.tv_lemmas.proofs.Members.{all-contains, all-members}
-use Rattle.tv_glue_laws.specs.Full.{IsFullRow, IsFull}
-use Rattle.tv_reduced_laws.proofs.ZeroClass.{nothing, assignments-none, class_on-nothing}
+use Rattle.tv_spec_series.specs.Full.{IsFullRow, IsFull}
+use Rattle.tv_laws_families.proofs.ZeroClass.{nothing, assignments-none, class_on-nothing}
 
 class_zero : (w : Web) (v : List ℤ) → IsClass w 0 v → v ≡ zeros (length w.points)
 class_zero w v is =

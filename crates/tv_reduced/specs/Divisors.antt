@@ -4,7 +4,7 @@
 -- from_zero r s k      == the coefficients of s from exponent 0, k of them
 use Rattle.std.specs.Prelude.{ℕ, pos}
 use Rattle.tv_ring.specs.Operations.{Operations}
-use Rattle.tv_terms.specs.Terms.{Terms, terms, listed}
+use Rattle.tv_laws_series.specs.Terms.{Terms, terms, listed}
 use Rattle.tv_spec_series.specs.Families.{coefficient}
 
 unfoldable pub counted : {A : Type 0} → Operations A → Terms A → ℕ → A

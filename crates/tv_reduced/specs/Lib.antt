@@ -1,4 +1,4 @@
 pub mod Faults
 pub mod Orders
 pub mod Divisors
-pub use Rattle.tv_reduced_laws.specs.Families
+pub use Rattle.tv_spec_series.specs.ReducedFamilies

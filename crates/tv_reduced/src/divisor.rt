@@ -1,12 +1,12 @@
 //! The series of class zero, from exponent 0, as a division asks for it.
 
 ghost use Rattle.std.specs.Prelude.{◌≡◌, ◌≤◌, ◌+◌, ◌^◌, ◌<◌, ◌≤ℤ◌, pos, unsigned_abs, IfOk, IfErr, Ok};
-ghost use Rattle.tv_terms.specs.Terms.{upto};
+ghost use Rattle.tv_laws_series.specs.Terms.{upto};
 ghost use Rattle.tv_spec_boxes.specs.Assignments.{no_legs};
 ghost use Rattle.tv_spec_series.specs.Families.{coefficient};
-ghost use Rattle.tv_degrees.specs.Grades.{IsGraded};
-ghost use Rattle.tv_glue_laws.specs.Full.{IsFull};
-ghost use Rattle.tv_reduced_laws.specs.Families.{IsDivisor};
+ghost use Rattle.tv_spec_plane.specs.Graded.{IsGraded};
+ghost use Rattle.tv_spec_series.specs.Full.{IsFull};
+ghost use Rattle.tv_spec_series.specs.ReducedFamilies.{IsDivisor};
 ghost use Rattle.tv_glue.specs.Faults.{IsCrowded};
 ghost use Rattle.tv_reduced.specs.Faults.{OnCrowd};
 ghost use Rattle.tv_reduced.specs.Divisors.{counted, from_zero};

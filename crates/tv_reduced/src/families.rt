@@ -2,14 +2,14 @@
 
 ghost use Rattle.std.specs.Prelude.{◌≡◌, ◌≤◌, ◌≤ℤ◌, negsuc, unsigned_abs, IfOk, IfErr};
 ghost use Rattle.std.specs.List.{AllByRecursion};
-ghost use Rattle.tv_terms.specs.Quotients.{quotient_upto, IsUnitSeries};
+ghost use Rattle.tv_laws_series.specs.Quotients.{quotient_upto, IsUnitSeries};
 ghost use Rattle.tv_laurent.specs.QuotientCalls.{QuotientReaches};
 ghost use Rattle.tv_spec_boxes.specs.Assignments.{no_legs};
 ghost use Rattle.tv_spec_boxes.specs.Numbers.{lowest};
 ghost use Rattle.tv_spec_series.specs.Families.{divided};
 ghost use Rattle.tv_graded.specs.Calls.{IsDividedWide};
-ghost use Rattle.tv_glue_laws.specs.Full.{IsFull};
-ghost use Rattle.tv_reduced_laws.specs.Families.{IsReducedFamily};
+ghost use Rattle.tv_spec_series.specs.Full.{IsFull};
+ghost use Rattle.tv_spec_series.specs.ReducedFamilies.{IsReducedFamily};
 ghost use Rattle.tv_glue.specs.Faults.{IsCrowded};
 ghost use Rattle.tv_reduced.specs.Faults.{IsReducedFault, OnCrowd, OnSpread};
 

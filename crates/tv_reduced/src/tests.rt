@@ -7,7 +7,7 @@ use tv_degrees::grade::{GradedWeb, grade};
 use tv_graded::Graded;
 use tv_lattice::point::Point;
 use tv_laurent::Coefficient;
-use tv_reduced_laws::laws;
+use tv_laws_families::laws;
 use tv_ring::{Residue, Whole};
 use tv_spec_plane::records::Triple;
 use tv_triangulation::triangulate::triangulate;

@@ -7,8 +7,8 @@ use Rattle.std.specs.List.{AllByRecursion, slice_get}
 use Rattle.tv_ring.specs.Whole.{wholes, is_zero, IsAny}
 use Rattle.tv_ring.specs.WholeLaws.{whole_laws}
 use Rattle.tv_ring.specs.Sums.{at}
-use Rattle.tv_terms.specs.Terms.{Terms, above, upto}
-use Rattle.tv_terms.proofs.Exponents.{above_is, above_adds}
+use Rattle.tv_laws_series.specs.Terms.{Terms, above, upto}
+use Rattle.tv_laws_series.proofs.Exponents.{above_is, above_adds}
 use Rattle.tv_spec_text.specs.Reports.{Term, Section, Rises, IsAmong, IsTerm, AreTerms}
 use Rattle.tv_spec_series.specs.Families.{Row, Family, coefficient, IsRow}
 use Rattle.tv_spec_series.proofs.Coefficients.{coefficient_below, coefficient_at}

@@ -4,7 +4,7 @@ ghost use Rattle.std.specs.Prelude.{◌≡◌, ◌++◌, ◌∷◌, ◌<◌, ◌
 ghost use Rattle.std.specs.List.{AllByRecursion};
 ghost use Rattle.tv_ring.specs.Sums.{at};
 ghost use Rattle.tv_ring.specs.Whole.{wholes};
-ghost use Rattle.tv_terms.specs.Terms.{above, upto};
+ghost use Rattle.tv_laws_series.specs.Terms.{above, upto};
 ghost use Rattle.tv_spec_text.specs.Reports.{series_text};
 ghost use Rattle.tv_spec_series.specs.Families.{Row};
 ghost use Rattle.tv_text.specs.Sections.{kind_word};

@@ -5,3 +5,4 @@ pub mod OneCornerWeb
 pub mod OneCornerCount
 pub mod OneCornerClass
 pub mod OneCornerCrowd
+pub mod Members

@@ -5,7 +5,8 @@ use Rattle.tv_spec_plane.specs.declared.records.Triple.{Triple}
 use Rattle.tv_spec_plane.specs.Plane.{Point}
 use Rattle.tv_spec_plane.specs.Web.{Web, compact, outer, edge_ref}
 use Rattle.tv_spec_boxes.specs.Assignments.{all_legs, no_legs}
-use Rattle.tv_spec_boxes.specs.OneCorner.{NamesAll, IsOneCorner, empty_legs}
+use Rattle.tv_spec_boxes.specs.OneCorner.{IsOneCorner, empty_legs}
+use Rattle.tv_spec_plane.specs.Web.{NamesAll}
 
 -- what is needed of such a web
 pub record IsBare (w : Web) : Type 0 where

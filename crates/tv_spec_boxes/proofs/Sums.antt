@@ -1,12 +1,11 @@
 -- Lists made by flat_map and filter, and sums over them.
 use Rattle.std.proofs.Common.{◌≡◌, ℕ, zero, suc, ◌+◌, ◌<◌, ◌≤◌, ℤ, pos, inl, inr, List, [], ◌∷◌, ◌++◌, map, length, refl, ap, sym, ◌∙◌, arith, add-zero, append-nil}
 use Rattle.std.specs.Prelude.{◌+ℤ◌, ◌-ℤ◌, ◌*ℤ◌}
-use Rattle.std.specs.List.{flat_map, AllByRecursion}
+use Rattle.std.specs.List.{flat_map, AllByRecursion, range_with_len}
 use Rattle.std.proofs.lemmas.Int.{ints}
 use Rattle.std.proofs.lemmas.Bool.{cases_eq}
 use Rattle.tv_lemmas.proofs.Integers.{mul-sub}
 use Rattle.tv_lemmas.proofs.Members.{all-append, all-map}
-use Rattle.tv_spec_plane.specs.Web.{numbers_from}
 use Rattle.tv_cells.specs.declared.cell.Cell.{Cell}
 use Rattle.tv_cells.specs.Cells.{sublists_of}
 use Rattle.tv_spec_boxes.specs.Configurations.{total}
@@ -17,9 +16,9 @@ flat_map-none [] = refl
 flat_map-none (x ∷ xs) = flat_map-none xs
 
 -- where all but the last number give nothing
-pub flat_map-last : {B : Type 0} (F : ℕ → List B) (k n : ℕ) → ((j : ℕ) → j < k + n → F j ≡ []) → flat_map F (numbers_from k (suc n)) ≡ F (k + n)
+pub flat_map-last : {B : Type 0} (F : ℕ → List B) (k n : ℕ) → ((j : ℕ) → j < k + n → F j ≡ []) → flat_map F (range_with_len k (suc n)) ≡ F (k + n)
 flat_map-last F k zero none = append-nil (F k) ∙ ap F (sym (add-zero k))
-flat_map-last F k (suc n) none = ap (λ ys. ys ++ flat_map F (numbers_from (suc k) (suc n))) (none k (omega arith)) ∙ flat_map-last F (suc k) n (λ j h. none j (omega arith)) ∙ ap F (omega arith)
+flat_map-last F k (suc n) none = ap (λ ys. ys ++ flat_map F (range_with_len (suc k) (suc n))) (none k (omega arith)) ∙ flat_map-last F (suc k) n (λ j h. none j (omega arith)) ∙ ap F (omega arith)
 
 -- the sublists of n members have n members
 pub sublists_of-length : (n : ℕ) (cells : List Cell) → AllByRecursion (λ s. length s ≡ n) (sublists_of n cells)
@@ -59,10 +58,10 @@ total-append-nil f xs = ap (total f) (append-nil xs)
 le-left : (a b : ℕ) → a ≤ a + b
 le-left a b = omega arith
 
-pub sum_of-term : (f : ℕ → ℕ) (k n i : ℕ) → k ≤ i → i < k + n → f i ≤ sum_of f (numbers_from k n)
+pub sum_of-term : (f : ℕ → ℕ) (k n i : ℕ) → k ≤ i → i < k + n → f i ≤ sum_of f (range_with_len k n)
 unfolding sum_of
 sum_of-term f k zero i p q = absurd (omega arith)
 sum_of-term f k (suc n) i p q = elim (cases_eq k i) [
-  | inl e ↦ let here : f k ≡ f i = ap f e in rw (← here) (le-left (f k) (sum_of f (numbers_from (suc k) n)))
-  | inr ne ↦ let below_rest : f i ≤ sum_of f (numbers_from (suc k) n) = sum_of-term f (suc k) n i (omega (arith, ne)) (omega arith) in omega arith
+  | inl e ↦ let here : f k ≡ f i = ap f e in rw (← here) (le-left (f k) (sum_of f (range_with_len (suc k) n)))
+  | inr ne ↦ let below_rest : f i ≤ sum_of f (range_with_len (suc k) n) = sum_of-term f (suc k) n i (omega (arith, ne)) (omega arith) in omega arith
 ]

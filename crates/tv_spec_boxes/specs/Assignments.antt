@@ -21,8 +21,9 @@
 --                       of a web in which every compact edge has a degree of at least 1
 -- same_vector u v    == the two vectors are equal
 -- assignments_of w v == the assignments of class v
-use Rattle.std.specs.Prelude.{ℕ, zero, suc, ◌+◌, ◌-◌, ◌*◌, ℤ, pos, negsuc, ◌+ℤ◌, ◌*ℤ◌, List, [], ◌∷◌, map, filter, length, slice_index_or, Bool, true, false, ◌&&◌, nat_le}
+use Rattle.std.specs.Prelude.{ℕ, zero, suc, ◌+◌, ◌-◌, ◌*◌, ℤ, pos, negsuc, ◌+ℤ◌, ◌*ℤ◌, List, [], ◌∷◌, map, filter, length, slice_index_or, Bool, nat_le}
 use Rattle.std.specs.Ordering.{int_eq}
+use Rattle.std.specs.Cmp.Lexicographic.{pointwise}
 use Rattle.std.specs.List.{flat_map}
 use Rattle.tv_spec_plane.specs.declared.records.CompactEdge.{CompactEdge}
 use Rattle.tv_spec_plane.specs.declared.records.OuterEdge.{OuterEdge}
@@ -107,10 +108,7 @@ unfoldable pub assignments : Web → ℕ → List Assignment
 assignments w d = choices (map (λ e. weight (edge_degree w e)) (compact w)) d
 
 abbrev pub same_vector : List ℤ → List ℤ → Bool
-same_vector [] [] = true
-same_vector [] (y ∷ v) = false
-same_vector (x ∷ u) [] = false
-same_vector (x ∷ u) (y ∷ v) = int_eq x y && same_vector u v
+same_vector = pointwise int_eq
 
 abbrev pub assignments_of : Web → List ℤ → List Assignment
 assignments_of w v = filter (λ a. same_vector (class_of w a) v) (assignments w (weight (degree_of w.heights v)))

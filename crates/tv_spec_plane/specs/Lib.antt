@@ -1,3 +1,4 @@
 pub mod Plane
 pub mod Tiling
 pub mod Web
+pub mod Graded

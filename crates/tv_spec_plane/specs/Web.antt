@@ -1,17 +1,16 @@
 -- A web: listed points, triangles and heights, and what its edges, corners, classes, degrees and signs are.
 --
 -- Web              == points, triangles and heights
--- numbers_from k n == k, k + 1, .., n numbers
 -- below n          == 0, 1, .., n - 1
 -- pairs n          == the pairs a < b below n, in order
 -- has t a          == a is a point of triangle t
+-- NamesAll t       == the triangle names 0, 1 and 2
 -- opposite t a b   == the point of t beside a and b
 -- owners w a b     == the numbers of the triangles that have both points, rising
 -- compact_edge a b c t d u == the edge of a and b with the opposite points c of triangle t and d of u, in rising order
 -- compact_by, outer_by == the edge, where its triangles are two, where there is one
 -- compact w        == the compact edges, those of two triangles, in order of their points
 -- outer w          == the open edges, those of one triangle, in order of their points
--- place_of test xs == the first place at which the test holds, or the length
 -- edge_ref w a b   == the place of the edge of a and b in one of the two lists
 -- rising a b c     == the three in rising order
 -- corner_on w p    == the corner of three points in rising order, with its edges
@@ -28,8 +27,8 @@
 -- parity z         == 1 where z is odd, else 0
 -- sign z           == 1 where z is even, else -1
 -- class_sign ps v chi == the sign that every configuration of that class and Euler characteristic has
-use Rattle.std.specs.Prelude.{ℕ, zero, suc, ◌-◌, ◌%◌, ℤ, pos, negsuc, neg_ℤ, ◌+ℤ◌, ◌-ℤ◌, ◌*ℤ◌, List, [], ◌∷◌, map, filter, length, Bool, cond, ◌&&◌, ◌||◌, nat_eq, nat_lt, Option, Some, None, unsigned_abs}
-use Rattle.std.specs.List.{flat_map, filter_map}
+use Rattle.std.specs.Prelude.{ℕ, zero, suc, ◌-◌, ◌%◌, ℤ, pos, negsuc, neg_ℤ, ◌+ℤ◌, ◌-ℤ◌, ◌*ℤ◌, List, [], ◌∷◌, map, filter, length, Bool, cond, ◌&&◌, ◌||◌, nat_eq, nat_lt, IsTrue, Option, Some, None, unsigned_abs}
+use Rattle.std.specs.List.{flat_map, filter_map, range_with_len, position_or_len}
 use Rattle.tv_spec_plane.specs.declared.records.Triple.{Triple}
 use Rattle.tv_spec_plane.specs.declared.records.CompactEdge.{CompactEdge}
 use Rattle.tv_spec_plane.specs.declared.records.OuterEdge.{OuterEdge}
@@ -44,18 +43,20 @@ pub record Web : Type 0 where
   pub triangles : List Triple
   pub heights : List ℤ
 
-abbrev pub numbers_from : ℕ → ℕ → List ℕ
-numbers_from k zero = []
-numbers_from k (suc n) = k ∷ numbers_from (suc k) n
-
 abbrev pub below : ℕ → List ℕ
-below n = numbers_from 0 n
+below n = range_with_len 0 n
 
 abbrev pub pairs : ℕ → List (ℕ × ℕ)
-pairs n = flat_map (λ a. map (λ b. (a, b)) (numbers_from (suc a) (n - suc a))) (below n)
+pairs n = flat_map (λ a. map (λ b. (a, b)) (range_with_len (suc a) (n - suc a))) (below n)
 
 abbrev pub has : Triple → ℕ → Bool
 has t a = nat_eq t.a a || (nat_eq t.b a || nat_eq t.c a)
+
+-- the triangle names 0, 1 and 2
+pub record NamesAll (t : Triple) : Type 0 where
+  pub first : IsTrue (has t 0)
+  pub second : IsTrue (has t 1)
+  pub third : IsTrue (has t 2)
 
 abbrev pub opposite : Triple → ℕ → ℕ → ℕ
 opposite t a b = cond (nat_eq t.a a || nat_eq t.a b) (cond (nat_eq t.b a || nat_eq t.b b) t.c t.b) t.a
@@ -81,15 +82,10 @@ compact w = filter_map (λ p. compact_by w p.0 p.1 (owners w p.0 p.1)) (pairs (l
 unfoldable pub outer : Web → List OuterEdge
 outer w = filter_map (λ p. outer_by p.0 p.1 (owners w p.0 p.1)) (pairs (length w.points))
 
--- the first place at which the test holds, or the length
-abbrev pub place_of : {A : Type 0} → (A → Bool) → List A → ℕ
-place_of test [] = 0
-place_of test (x ∷ xs) = cond (test x) 0 (suc (place_of test xs))
-
 unfoldable pub edge_ref : Web → ℕ → ℕ → EdgeRef
 edge_ref w a b =
-    let inner = place_of (λ (e : CompactEdge). nat_eq e.a a && nat_eq e.b b) (compact w) in
-    cond (nat_lt inner (length (compact w))) (Compact inner) (Outer (place_of (λ (e : OuterEdge). nat_eq e.a a && nat_eq e.b b) (outer w)))
+    let inner = position_or_len (λ (e : CompactEdge). nat_eq e.a a && nat_eq e.b b) (compact w) in
+    cond (nat_lt inner (length (compact w))) (Compact inner) (Outer (position_or_len (λ (e : OuterEdge). nat_eq e.a a && nat_eq e.b b) (outer w)))
 
 -- the points of a triangle in rising order
 abbrev pub rising : ℕ → ℕ → ℕ → ℕ × ℕ × ℕ

@@ -7,13 +7,13 @@ use Rattle.tv_ring.specs.Operations.{Operations, RingLaws}
 use Rattle.tv_ring.specs.Sums.{at, convolution}
 use Rattle.tv_ring.proofs.Rings.{mul-nought}
 use Rattle.tv_ring.proofs.Products.{convolution-same}
-use Rattle.tv_terms.specs.Terms.{scaled, Terms, above, upto, from, known, plus}
-use Rattle.tv_terms.specs.Series.{series_sum, series_product, series_shift, series_scale, series_cut}
-use Rattle.tv_terms.specs.SeriesLaws.{HasValues}
-use Rattle.tv_terms.proofs.Exponents.{above_is, above_adds}
-use Rattle.tv_terms.proofs.Listed.{length-listed, at-listed, at-take, at_past}
-use Rattle.tv_terms.proofs.Padded.{padded_before, padded_after, scaled_is}
-use Rattle.tv_terms.proofs.SeriesFrom.{from_is, same_terms, known-sum, from-sum, from-product}
+use Rattle.tv_laws_series.specs.Terms.{scaled, Terms, above, upto, from, known, plus}
+use Rattle.tv_laws_series.specs.Series.{series_sum, series_product, series_shift, series_scale, series_cut}
+use Rattle.tv_laws_series.specs.SeriesLaws.{HasValues}
+use Rattle.tv_laws_series.proofs.Exponents.{above_is, above_adds}
+use Rattle.tv_laws_series.proofs.Listed.{length-listed, at-listed, at-take, at_past}
+use Rattle.tv_laws_series.proofs.Padded.{padded_before, padded_after, scaled_is}
+use Rattle.tv_laws_series.proofs.SeriesFrom.{from_is, same_terms, known-sum, from-sum, from-product}
 use Rattle.tv_spec_series.specs.Families.{coefficient}
 
 coefficient_is : {A : Type 0} (r : Operations A) (t : Terms A) (n : ℤ) → coefficient r t n ≡ (if int_lt n t.low then r.nought else at r t.coefficients (above t.low n))

@@ -1,8 +1,8 @@
 -- A family that is divided has the classes of the family, and each series is divided.
 use Rattle.std.proofs.Common.{◌≡◌, ℤ, List, [], ◌∷◌, map, Option, Some, None, refl, ap}
 use Rattle.tv_ring.specs.Operations.{Operations}
-use Rattle.tv_terms.specs.Terms.{Terms}
-use Rattle.tv_terms.proofs.NormalForm.{bool_cases}
+use Rattle.tv_laws_series.specs.Terms.{Terms}
+use Rattle.tv_laws_series.proofs.NormalForm.{bool_cases}
 use Rattle.tv_spec_boxes.specs.Assignments.{same_vector}
 use Rattle.tv_spec_series.specs.Families.{Row, classes, find, divided_row}
 use Rattle.tv_spec_series.proofs.Rows.{find-nil, find-here, find-next}

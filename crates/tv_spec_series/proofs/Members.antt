@@ -3,7 +3,7 @@ use Rattle.std.proofs.Common.{◌≡◌, ℤ, List, [], ◌∷◌, Some, sym, �
 use Rattle.std.specs.List.{AllByRecursion}
 use Rattle.tv_lemmas.proofs.Members.{contains-head, contains-later, contains-cases}
 use Rattle.tv_ring.specs.Operations.{Operations}
-use Rattle.tv_terms.specs.Terms.{Terms}
+use Rattle.tv_laws_series.specs.Terms.{Terms}
 use Rattle.tv_spec_boxes.specs.Classes.{IsBefore, ClassesRise}
 use Rattle.tv_spec_series.specs.Families.{Row, classes, find, put}
 use Rattle.tv_spec_series.proofs.Order.{same_vector-other, before_apart, rise_tail, first_before}

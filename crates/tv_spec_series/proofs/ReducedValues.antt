@@ -2,7 +2,7 @@
 use Rattle.std.specs.Prelude.{◌≡◌, ℤ, pos, negsuc, List, [], ◌∷◌, map, refl}
 use Rattle.tv_ring.specs.Sums.{at, convolution, term, sum_below, total_below}
 use Rattle.tv_ring.specs.Whole.{wholes}
-use Rattle.tv_terms.specs.Terms.{terms, above}
+use Rattle.tv_laws_series.specs.Terms.{terms, above}
 use Rattle.tv_spec_series.specs.Families.{coefficient}
 use Rattle.tv_spec_series.specs.Reduced.{product_at, quotient_size}
 

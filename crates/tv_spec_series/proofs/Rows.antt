@@ -2,9 +2,9 @@
 use Rattle.std.proofs.Common.{◌≡◌, ℤ, true, false, List, [], ◌∷◌, length, Some, None, refl, sym, ◌∙◌, ap, subst}
 use Rattle.std.specs.List.{AllByRecursion}
 use Rattle.tv_ring.specs.Operations.{Operations}
-use Rattle.tv_terms.specs.Terms.{Terms}
-use Rattle.tv_terms.specs.Series.{series_sum, series_cut}
-use Rattle.tv_terms.proofs.NormalForm.{bool_cases}
+use Rattle.tv_laws_series.specs.Terms.{Terms}
+use Rattle.tv_laws_series.specs.Series.{series_sum, series_cut}
+use Rattle.tv_laws_series.proofs.NormalForm.{bool_cases}
 use Rattle.tv_spec_boxes.specs.Assignments.{same_vector}
 use Rattle.tv_spec_boxes.specs.Classes.{IsBefore, ClassesRise}
 use Rattle.tv_spec_series.specs.Families.{Row, row, classes, comes_before, find, put, with_series}

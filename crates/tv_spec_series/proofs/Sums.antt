@@ -6,13 +6,13 @@ use Rattle.std.proofs.lemmas.Int.{ints, clamps}
 use Rattle.std.proofs.lemmas.List.{length-take}
 use Rattle.tv_ring.specs.Operations.{Operations, RingLaws}
 use Rattle.tv_ring.proofs.Rings.{nought-add}
-use Rattle.tv_terms.specs.Terms.{Terms, above, upto, IsWithin}
-use Rattle.tv_terms.specs.Series.{series_sum, series_cut, IsSeries}
-use Rattle.tv_terms.specs.SeriesLaws.{HasValues}
-use Rattle.tv_terms.proofs.Exponents.{above_is}
-use Rattle.tv_terms.proofs.Listed.{at-take, values_all}
-use Rattle.tv_terms.proofs.NormalForm.{bool_cases}
-use Rattle.tv_terms.proofs.SeriesFrom.{value_series_sum}
+use Rattle.tv_laws_series.specs.Terms.{Terms, above, upto, IsWithin}
+use Rattle.tv_laws_series.specs.Series.{series_sum, series_cut, IsSeries}
+use Rattle.tv_laws_series.specs.SeriesLaws.{HasValues}
+use Rattle.tv_laws_series.proofs.Exponents.{above_is}
+use Rattle.tv_laws_series.proofs.Listed.{at-take, values_all}
+use Rattle.tv_laws_series.proofs.NormalForm.{bool_cases}
+use Rattle.tv_laws_series.proofs.SeriesFrom.{value_series_sum}
 use Rattle.tv_spec_boxes.specs.Assignments.{same_vector}
 use Rattle.tv_spec_series.specs.Families.{Row, Family, row, classes, coefficient, find, added, with_series, series_coefficient, coefficient_of, without_rows, IsRow, IsFamily, IsAddend}
 use Rattle.tv_spec_boxes.proofs.Vectors.{same_vector_tells}

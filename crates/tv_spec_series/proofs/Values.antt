@@ -2,8 +2,8 @@
 use Rattle.std.specs.Prelude.{◌≡◌, ℤ, pos, negsuc, List, [], ◌∷◌, refl}
 use Rattle.tv_ring.specs.Sums.{at, sum_below, term}
 use Rattle.tv_ring.specs.Whole.{wholes}
-use Rattle.tv_terms.specs.Terms.{Terms, terms, above, from, padded, listed, plus}
-use Rattle.tv_terms.specs.Quotients.{owed, quotients}
+use Rattle.tv_laws_series.specs.Terms.{Terms, terms, above, from, padded, listed, plus}
+use Rattle.tv_laws_series.specs.Quotients.{owed, quotients}
 use Rattle.tv_spec_series.specs.Families.{Family, row, without_rows, added, divided, put, find, comes_before, coefficient, coefficient_of}
 
 abbrev one : Terms ℤ

@@ -25,9 +25,9 @@ use Rattle.std.specs.List.{AllByRecursion}
 use Rattle.std.specs.Ordering.{int_eq}
 use Rattle.tv_ring.specs.Operations.{Operations}
 use Rattle.tv_ring.specs.Sums.{at}
-use Rattle.tv_terms.specs.Terms.{Terms, above, upto, IsWithin}
-use Rattle.tv_terms.specs.Series.{series_sum, series_cut, IsSeries}
-use Rattle.tv_terms.specs.Quotients.{series_quotient}
+use Rattle.tv_laws_series.specs.Terms.{Terms, above, upto, IsWithin}
+use Rattle.tv_laws_series.specs.Series.{series_sum, series_cut, IsSeries}
+use Rattle.tv_laws_series.specs.Quotients.{series_quotient}
 use Rattle.tv_spec_plane.specs.Web.{degree_of}
 use Rattle.tv_spec_boxes.specs.Assignments.{same_vector}
 use Rattle.tv_spec_boxes.specs.Classes.{ClassesRise}

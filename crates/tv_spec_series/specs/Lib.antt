@@ -1,2 +1,5 @@
 pub mod Families
+pub mod FamilyOf
+pub mod Full
 pub mod Reduced
+pub mod ReducedFamilies

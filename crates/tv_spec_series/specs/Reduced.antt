@@ -15,7 +15,7 @@
 use Rattle.std.specs.Prelude.{◌≡◌, ℕ, suc, ◌+◌, ◌-◌, ◌*◌, ℤ, pos, ◌+ℤ◌, ◌-ℤ◌, ◌≤ℤ◌, ◌<ℤ◌, unsigned_abs, int_lt, List, length, if◌then◌else◌}
 use Rattle.tv_ring.specs.Whole.{wholes}
 use Rattle.tv_ring.specs.Sums.{convolution, total_below}
-use Rattle.tv_terms.specs.Terms.{above}
+use Rattle.tv_laws_series.specs.Terms.{above}
 use Rattle.tv_spec_plane.specs.Web.{Web}
 use Rattle.tv_spec_boxes.specs.Assignments.{Rows, zeros}
 use Rattle.tv_spec_boxes.specs.Configurations.{signed_count}

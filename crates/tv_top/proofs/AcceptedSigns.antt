@@ -1,10 +1,10 @@
 -- The edge rule of an accepted file's web, whose triangles are the file's own turned, and the signs that follow.
 use Rattle.std.proofs.Common.{sym, subst}
-use Rattle.tv_edge_laws.specs.Rule.{HasEdgeRule}
-use Rattle.tv_edge_rule_laws.proofs.Rules.{has_edge_rule}
-use Rattle.tv_edge_rule_laws.proofs.Turned.{tiled-turned}
-use Rattle.tv_sign_laws.proofs.Signs.{configuration_has_sign}
-use Rattle.tv_partial.proofs.Signs.{partial_has_sign}
+use Rattle.tv_laws_edges.specs.Rule.{HasEdgeRule}
+use Rattle.tv_laws_tiled_edges.proofs.Rules.{has_edge_rule}
+use Rattle.tv_laws_tiled_edges.proofs.Turned.{tiled-turned}
+use Rattle.tv_laws_signs.proofs.Signs.{configuration_has_sign}
+use Rattle.tv_laws_signs.proofs.PartialSigns.{partial_has_sign}
 use Rattle.tv_top.specs.Acceptance.{turned_web}
 use Rattle.tv_top.specs.Laws.{AcceptedHasEdgeRule, AcceptedConfigurationSign, AcceptedPartialSign}
 

@@ -12,9 +12,9 @@ use Rattle.tv_text.proofs.Exact.{IsText-accepted}
 use Rattle.tv_lattice.specs.declared.fault.FileFault.{FileFault}
 use Rattle.tv_lattice.specs.declared.fault.FileFault.TheVariants.{TooLong, Line, Json, TooMany, Repeated, Index, Flat, Area, Twice, Unmatched, Bare, HeightCount, Degree}
 use Rattle.tv_lattice.specs.Limits.{IsWithinLimits}
-use Rattle.tv_acceptance.specs.Triangulated.{IsTiled}
-use Rattle.tv_acceptance.proofs.Accepted.{tiling_triangles_pass}
-use Rattle.tv_degrees.specs.Grades.{IsGraded}
+use Rattle.tv_triangulation.specs.Triangulated.{IsTiled}
+use Rattle.tv_triangulation.proofs.Accepted.{tiling_triangles_pass}
+use Rattle.tv_spec_plane.specs.Graded.{IsGraded}
 use Rattle.tv_outside.specs.Faults.{Rose}
 use Rattle.tv_text.specs.declared.series.Kind.{Kind}
 use Rattle.tv_text.specs.declared.series.Kind.TheVariants.{Full, Reduced}

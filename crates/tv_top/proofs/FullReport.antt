@@ -10,7 +10,7 @@ use Rattle.tv_spec_boxes.specs.Classes.{AreClasses}
 use Rattle.tv_spec_text.specs.Reports.{AreTerms, series_text}
 use Rattle.tv_spec_series.specs.Families.{Row, Family, coefficient}
 use Rattle.tv_spec_series.specs.Reduced.{full_coefficient}
-use Rattle.tv_glue_laws.specs.Full.{IsFull, IsFullRow}
+use Rattle.tv_spec_series.specs.Full.{IsFull, IsFullRow}
 use Rattle.tv_text.specs.declared.series.Kind.TheVariants.{Full}
 use Rattle.tv_reports.specs.Sections.{IsSmall, section_of, sections_of, TellsRow}
 use Rattle.tv_reports.proofs.Sections.{sections_tell}

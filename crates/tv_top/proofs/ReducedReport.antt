@@ -9,7 +9,7 @@ use Rattle.tv_spec_boxes.specs.Assignments.{no_legs}
 use Rattle.tv_spec_boxes.specs.Classes.{AreClasses}
 use Rattle.tv_spec_text.specs.Reports.{AreTerms, series_text}
 use Rattle.tv_spec_series.specs.Families.{Row, Family, coefficient}
-use Rattle.tv_reduced_laws.specs.Families.{IsReducedFamily, IsReducedRow}
+use Rattle.tv_spec_series.specs.ReducedFamilies.{IsReducedFamily, IsReducedRow}
 use Rattle.tv_text.specs.declared.series.Kind.TheVariants.{Reduced}
 use Rattle.tv_reports.specs.Sections.{IsSmall, section_of, sections_of, TellsRow}
 use Rattle.tv_reports.proofs.Sections.{sections_tell}

@@ -7,14 +7,15 @@ use Rattle.tv_lattice.specs.Limits.{IsWithinLimits}
 use Rattle.tv_lattice.specs.declared.fault.InputError.{InputError}
 use Rattle.tv_lattice.specs.declared.fault.InputError.TheVariants.{Fault, Memory}
 use Rattle.tv_lattice.specs.declared.fault.FileFault.TheVariants.{TooLong, Line, Json, TooMany, Repeated, Index, Flat, Area, Twice, Unmatched, Bare, HeightCount, Degree}
-use Rattle.tv_acceptance.specs.Triangulated.{IsTiled}
-use Rattle.tv_acceptance.proofs.Accepted.{passing_triangles_tile}
+use Rattle.tv_triangulation.specs.Triangulated.{IsTiled}
+use Rattle.tv_triangulation.proofs.Accepted.{passing_triangles_tile}
 use Rattle.tv_triangulation.specs.Mesh.{Mesh}
 use Rattle.tv_triangulation.specs.Turned.{turned}
 use Rattle.tv_triangulation.specs.Faults.{IsAnswer, IsAccepted as PassesChecks}
 use Rattle.tv_web.specs.Built.{bare_web}
 use Rattle.tv_degrees.specs.Edges.{edge_at, no_edge, with_heights}
-use Rattle.tv_degrees.specs.Grades.{HasDegree, IsGraded, IsFirstLow}
+use Rattle.tv_degrees.specs.Grades.{IsFirstLow}
+use Rattle.tv_spec_plane.specs.Graded.{HasDegree, IsGraded}
 use Rattle.tv_text.specs.Faults.{IsText}
 use Rattle.tv_top.specs.Acceptance.{is_json, turned_web, IsAccepted, IsSound, IsUnsound, IsLowEdge}
 use Rattle.tv_top.specs.Rejections.{IsRefused}

@@ -8,11 +8,11 @@ use Rattle.tv_spec_plane.specs.Web.{Web, degree_of}
 use Rattle.tv_spec_boxes.specs.Assignments.{Rows, no_legs, class_of, assignments, assignments_of, same_vector}
 use Rattle.tv_spec_boxes.specs.Classes.{IsClass}
 use Rattle.tv_spec_boxes.specs.Numbers.{sum_of, crowd}
-use Rattle.tv_degrees.specs.Grades.{IsGraded}
+use Rattle.tv_spec_plane.specs.Graded.{IsGraded}
 use Rattle.tv_lemmas.proofs.Members.{all-filter, all-members}
 use Rattle.tv_spec_boxes.proofs.Vectors.{same_vector_tells}
-use Rattle.tv_gluing.proofs.Degrees.{assignments_by_degree}
-use Rattle.tv_gluing.proofs.Crowds.{crowd_is}
+use Rattle.tv_laws_counts.proofs.Degrees.{assignments_by_degree}
+use Rattle.tv_laws_counts.proofs.Crowds.{crowd_is}
 use Rattle.tv_reduced.specs.Faults.{IsSpreadOut as IsWideSpread}
 use Rattle.tv_text.specs.declared.series.Kind.TheVariants.{Full, Reduced}
 use Rattle.tv_text.specs.Refusals.{crowd_line, spread_line}

@@ -21,8 +21,9 @@ use Rattle.tv_lattice.specs.declared.fault.InputError.{InputError}
 use Rattle.tv_lattice.specs.declared.fault.InputError.TheVariants.{Fault, Memory}
 use Rattle.tv_triangulation.specs.Turned.{turned}
 use Rattle.tv_triangulation.specs.Faults.{IsFirstFault}
-use Rattle.tv_acceptance.specs.Triangulated.{IsTiled}
-use Rattle.tv_degrees.specs.Grades.{IsGraded, IsFirstLow}
+use Rattle.tv_triangulation.specs.Triangulated.{IsTiled}
+use Rattle.tv_degrees.specs.Grades.{IsFirstLow}
+use Rattle.tv_spec_plane.specs.Graded.{IsGraded}
 
 abbrev pub is_json : List ℕ → Bool
 is_json [] = false

@@ -8,8 +8,8 @@ use Rattle.std.specs.Prelude.{◌≡◌, ℕ, List}
 use Rattle.tv_spec_plane.specs.Web.{Web, class_sign}
 use Rattle.tv_spec_boxes.specs.Assignments.{Rows, class_of}
 use Rattle.tv_spec_boxes.specs.Configurations.{Configuration, chi_of, configuration_sign}
-use Rattle.tv_edge_laws.specs.Rule.{HasEdgeRule}
-use Rattle.tv_partial.specs.Partial.{partial_chi, partial_sign}
+use Rattle.tv_laws_edges.specs.Rule.{HasEdgeRule}
+use Rattle.tv_spec_partial.specs.Partial.{partial_chi, partial_sign}
 use Rattle.tv_top.specs.Acceptance.{IsAccepted}
 
 abbrev pub AcceptedHasEdgeRule : Type 0

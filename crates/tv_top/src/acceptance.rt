@@ -6,7 +6,7 @@ ghost use Rattle.tv_lattice.specs.Limits.{IsHeight};
 ghost use Rattle.tv_triangulation.specs.Faults.{IsAccepted as PassesChecks};
 ghost use Rattle.tv_web.specs.Built.{bare_web};
 ghost use Rattle.tv_degrees.specs.Edges.{with_heights};
-ghost use Rattle.tv_degrees.specs.Grades.{IsGraded};
+ghost use Rattle.tv_spec_plane.specs.Graded.{IsGraded};
 ghost use Rattle.tv_top.specs.Acceptance.{is_json, IsAccepted, IsSound, IsUnsound, IsLowEdge};
 ghost use Rattle.tv_top.specs.Rejections.{IsRefused};
 

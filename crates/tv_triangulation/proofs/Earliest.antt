@@ -3,7 +3,7 @@ use Rattle.std.specs.Prelude.{◌≡◌, ℕ, ◌+◌, ◌<◌, ◌≤◌, ◌�
 use Rattle.std.proofs.Common.{subst, sym, refl, inl, inr, get_or}
 use Rattle.std.proofs.lemmas.List.{take_more, take_all}
 use Rattle.tv_spec_plane.specs.Plane.{Segment}
-use Rattle.tv_spec_hull.specs.Members.{Among}
+use Rattle.tv_laws_tiling.specs.Members.{Among}
 use Rattle.tv_hull.specs.Pairs.{IsFirstPair}
 use Rattle.tv_triangulation.specs.Segments.{precedes, earlier}
 use Rattle.tv_triangulation.specs.Checks.{NoPair}

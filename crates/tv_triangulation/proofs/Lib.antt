@@ -4,3 +4,8 @@ pub mod Earliest
 pub mod Turning
 pub mod Matching
 pub mod Tilings
+pub mod Spread
+pub mod Tiled
+pub mod OneTriangle
+pub mod Accepted
+pub mod Untwisted

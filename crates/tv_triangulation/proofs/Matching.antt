@@ -6,9 +6,9 @@ use Rattle.tv_lattice.specs.declared.fault.FileFault.{FileFault}
 use Rattle.tv_lattice.specs.declared.fault.FileFault.TheVariants.{Twice, Unmatched, Bare}
 use Rattle.tv_spec_plane.specs.declared.records.Triple.{Triple}
 use Rattle.tv_spec_plane.specs.Plane.{Point, Segment, IsHullSegment}
-use Rattle.tv_spec_hull.specs.Members.{Among}
-use Rattle.tv_spec_hull.specs.Hull.{IsHull}
-use Rattle.tv_spec_hull.specs.Edges.{edges, back, AreTurned, IsMatched}
+use Rattle.tv_laws_tiling.specs.Members.{Among}
+use Rattle.tv_laws_tiling.specs.Hull.{IsHull}
+use Rattle.tv_laws_tiling.specs.Edges.{edges, back, AreTurned, IsMatched}
 use Rattle.tv_hull.specs.Pairs.{IsFirstPair}
 use Rattle.tv_triangulation.specs.Mesh.{IsTriangulated}
 use Rattle.tv_triangulation.specs.Turned.{turned}

@@ -7,8 +7,8 @@ use Rattle.std.proofs.lemmas.List.{take_more, append-nil}
 use Rattle.std.proofs.lemmas.Grind.{flat_map-append}
 use Rattle.tv_spec_plane.specs.declared.records.Triple.{Triple}
 use Rattle.tv_spec_plane.specs.Plane.{Segment}
-use Rattle.tv_spec_hull.specs.Members.{Among}
-use Rattle.tv_spec_hull.specs.Edges.{sides, edges}
+use Rattle.tv_laws_tiling.specs.Members.{Among}
+use Rattle.tv_laws_tiling.specs.Edges.{sides, edges}
 use Rattle.tv_triangulation.specs.Segments.{same_segment, precedes}
 
 pub same_pair : (a b c d : ℕ) → a ≡ c → b ≡ d → ◌≡◌ {A = Segment} (a, b) (c, d)

@@ -5,10 +5,10 @@ use Rattle.std.proofs.lemmas.Int.{ints}
 use Rattle.tv_spec_plane.specs.declared.records.Triple.{Triple}
 use Rattle.tv_spec_plane.specs.Plane.{Point, at, turn, Segment}
 use Rattle.tv_spec_plane.specs.Tiling.{triangle_at}
-use Rattle.tv_spec_hull.specs.Members.{Among, Once}
-use Rattle.tv_spec_hull.proofs.Members.{among-append, once-append}
-use Rattle.tv_spec_hull.specs.Edges.{sides, edges, IsTurned, AreTurned}
-use Rattle.tv_spec_hull.proofs.Turns.{turn-first, turn-rotate}
+use Rattle.tv_laws_tiling.specs.Members.{Among, Once}
+use Rattle.tv_laws_tiling.proofs.Members.{among-append, once-append}
+use Rattle.tv_laws_tiling.specs.Edges.{sides, edges, IsTurned, AreTurned}
+use Rattle.tv_laws_tiling.proofs.Rotations.{turn-first, turn-rotate}
 use Rattle.tv_triangulation.specs.Checks.{IsShared, IsTwice, NoPair}
 
 -- where the first two sides of t are none of u's, and the third is one only where b is true

@@ -12,18 +12,18 @@ use Rattle.tv_lattice.specs.declared.fault.InputError.TheVariants.{Fault, Memory
 use Rattle.tv_spec_plane.specs.declared.records.Triple.{Triple}
 use Rattle.tv_spec_plane.specs.Plane.{Point, at, turn, Segment, IsHullSegment}
 use Rattle.tv_spec_plane.specs.Tiling.{Tiles, triangle_at}
-use Rattle.tv_spec_hull.specs.Hull.{IsHull}
-use Rattle.tv_spec_hull.specs.Edges.{sides, IsListed, IsMatched}
+use Rattle.tv_laws_tiling.specs.Hull.{IsHull}
+use Rattle.tv_laws_tiling.specs.Edges.{sides, IsListed, IsMatched}
 use Rattle.tv_lemmas.proofs.Members.{all-at}
 use Rattle.tv_lemmas.proofs.Signs.{sign}
-use Rattle.tv_tiling.specs.Points.{AreSmall, SpansPlane}
-use Rattle.tv_tiling.specs.Laws.{IsExchange}
-use Rattle.tv_tiling.proofs.Lists.{flat_map-once_apart}
-use Rattle.tv_tiling.proofs.Exchanges.{exchanged_triangles_tile}
-use Rattle.tv_tiling.proofs.Matched.{matched_triangles_tile}
-use Rattle.tv_tiling_converse.proofs.Tiled.{tiling_triangles_match}
+use Rattle.tv_laws_tiling.specs.Points.{AreSmall, SpansPlane}
+use Rattle.tv_laws_tiling.specs.Laws.{IsExchange}
+use Rattle.tv_laws_tiling.proofs.Lists.{flat_map-once_apart}
+use Rattle.tv_laws_tiling.proofs.Exchanges.{exchanged_triangles_tile}
+use Rattle.tv_laws_tiling.proofs.Matched.{matched_triangles_tile}
+use Rattle.tv_laws_tiling_converse.proofs.Tiled.{tiling_triangles_match}
 use Rattle.tv_hull.specs.Points.{AreDistinct, IsRepeat}
-use Rattle.tv_spec_hull.proofs.Turns.{turn-first, turn-rotate}
+use Rattle.tv_laws_tiling.proofs.Rotations.{turn-first, turn-rotate}
 use Rattle.tv_hull.proofs.Collinear.{flat-line}
 use Rattle.tv_triangulation.specs.Mesh.{Mesh, IsTriangulated}
 use Rattle.tv_triangulation.specs.Turned.{turn_of, turned_of, turned, IsUnit}

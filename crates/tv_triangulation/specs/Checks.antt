@@ -14,8 +14,8 @@ use Rattle.std.specs.List.{AllByRecursion}
 use Rattle.tv_spec_plane.specs.declared.records.Triple.{Triple}
 use Rattle.tv_spec_plane.specs.Plane.{Point, Segment}
 use Rattle.tv_spec_plane.specs.Tiling.{triangle_at}
-use Rattle.tv_spec_hull.specs.Members.{Among}
-use Rattle.tv_spec_hull.specs.Edges.{sides, IsListed}
+use Rattle.tv_laws_tiling.specs.Members.{Among}
+use Rattle.tv_laws_tiling.specs.Edges.{sides, IsListed}
 use Rattle.tv_triangulation.specs.Turned.{IsUnit}
 
 abbrev pub IsFirstNot : (Triple → Type 0) → List Triple → ℕ → Type 0

@@ -13,7 +13,7 @@ use Rattle.std.specs.Prelude.{◌≡◌, ℕ, pos, List, ⊤}
 use Rattle.tv_spec_plane.specs.declared.records.Triple.{Triple}
 use Rattle.tv_spec_plane.specs.Plane.{Point, IsHullSegment}
 use Rattle.tv_spec_plane.specs.Tiling.{triangle_at}
-use Rattle.tv_spec_hull.specs.Edges.{edges, IsListed}
+use Rattle.tv_laws_tiling.specs.Edges.{edges, IsListed}
 use Rattle.tv_lattice.specs.declared.fault.FileFault.{FileFault}
 use Rattle.tv_lattice.specs.declared.fault.FileFault.TheVariants.{Repeated, Index, Flat, Area, Twice, Unmatched, Bare}
 use Rattle.tv_lattice.specs.declared.fault.InputError.{InputError}

@@ -3,10 +3,12 @@ pub mod Turned
 pub mod Checks
 pub mod Segments
 pub mod Faults
+pub mod Triangulated
+pub mod Laws
 pub use Rattle.tv_spec_plane.specs.Plane
 pub use Rattle.tv_spec_plane.specs.Tiling
-pub use Rattle.tv_spec_hull.specs.Members
-pub use Rattle.tv_spec_hull.specs.Hull
-pub use Rattle.tv_spec_hull.specs.Edges
+pub use Rattle.tv_laws_tiling.specs.Members
+pub use Rattle.tv_laws_tiling.specs.Hull
+pub use Rattle.tv_laws_tiling.specs.Edges
 pub use Rattle.tv_hull.specs.Pairs
 pub use Rattle.tv_hull.specs.Points

@@ -7,8 +7,8 @@
 use Rattle.std.specs.Prelude.{◌≤◌, List, length}
 use Rattle.tv_spec_plane.specs.declared.records.Triple.{Triple}
 use Rattle.tv_spec_plane.specs.Plane.{Point, Segment}
-use Rattle.tv_spec_hull.specs.Hull.{IsHull}
-use Rattle.tv_spec_hull.specs.Edges.{AreTurned, IsMatched}
+use Rattle.tv_laws_tiling.specs.Hull.{IsHull}
+use Rattle.tv_laws_tiling.specs.Edges.{AreTurned, IsMatched}
 use Rattle.tv_hull.specs.Points.{AreDistinct, IsFlat}
 
 pub record Mesh : Type 0 where

@@ -2,8 +2,8 @@
 
 ghost use Rattle.std.specs.Prelude.{◌≡◌, ◌&&◌, ◌∷◌, [], ◌↔◌, IsTrue, IfOk, nat_eq};
 ghost use Rattle.std.specs.List.{list_any};
-ghost use Rattle.tv_spec_hull.specs.Members.{Among};
-ghost use Rattle.tv_spec_hull.specs.Edges.{sides, edges};
+ghost use Rattle.tv_laws_tiling.specs.Members.{Among};
+ghost use Rattle.tv_laws_tiling.specs.Edges.{sides, edges};
 ghost use Rattle.tv_triangulation.specs.Segments.{same_segment};
 
 use std::alloc::{AllocError, Global};

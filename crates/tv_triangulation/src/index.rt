@@ -1,7 +1,7 @@
 //! Whether triangles name listed points. What the points are is not asked.
 
 ghost use Rattle.std.specs.Prelude.{◌≤◌, ◌↔◌, IsTrue, length, MatchOption};
-ghost use Rattle.tv_spec_hull.specs.Edges.{IsListed};
+ghost use Rattle.tv_laws_tiling.specs.Edges.{IsListed};
 ghost use Rattle.tv_triangulation.specs.Checks.{AreListed, IsFirstNot};
 
 use tv_lattice::point::Point;

@@ -1,7 +1,7 @@
 //! The first fault of the edges of turned triangles, among themselves and against the hull. Points are not seen here.
 
 ghost use Rattle.std.specs.Prelude.{◌≡◌, ◌≤◌, length, MatchOption};
-ghost use Rattle.tv_spec_hull.specs.Edges.{edges as edges_in};
+ghost use Rattle.tv_laws_tiling.specs.Edges.{edges as edges_in};
 ghost use Rattle.tv_triangulation.specs.Checks.{IsListedIn};
 ghost use Rattle.tv_triangulation.specs.Faults.{IsMisfit, Fits};
 

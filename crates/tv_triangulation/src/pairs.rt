@@ -1,8 +1,8 @@
 //! The least segment of a list that has a fault. What a fault is comes from the two checks of edges against the hull.
 
 ghost use Rattle.std.specs.Prelude.{◌≡◌, if◌then◌else◌, ◌↔◌, IsTrue, MatchOption};
-ghost use Rattle.tv_spec_hull.specs.Members.{Among};
-ghost use Rattle.tv_spec_hull.specs.Edges.{back};
+ghost use Rattle.tv_laws_tiling.specs.Members.{Among};
+ghost use Rattle.tv_laws_tiling.specs.Edges.{back};
 ghost use Rattle.tv_hull.specs.Pairs.{IsFirstPair};
 ghost use Rattle.tv_triangulation.specs.Checks.{IsUnmatched, IsBare, IsListedIn, NoPair};
 ghost use Rattle.tv_triangulation.specs.Segments.{precedes, earlier as earlier_of};

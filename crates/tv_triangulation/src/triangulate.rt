@@ -2,7 +2,7 @@
 
 ghost use Rattle.std.specs.Prelude.{◌≡◌, ◌≤◌, length, IsOkUnless, MatchResult, OnOk};
 ghost use Rattle.tv_spec_plane.specs.Tiling.{Tiles};
-ghost use Rattle.tv_spec_hull.specs.Hull.{IsHull};
+ghost use Rattle.tv_laws_tiling.specs.Hull.{IsHull};
 ghost use Rattle.tv_triangulation.specs.Checks.{AreListed};
 ghost use Rattle.tv_triangulation.specs.Faults.{IsFullSet, AreSound, IsAnswer, IsEarlyAnswer, IsAccepted};
 

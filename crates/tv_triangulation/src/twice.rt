@@ -2,8 +2,8 @@
 
 ghost use Rattle.std.specs.Prelude.{ℕ, ◌<◌, ◌≤◌, ◌↔◌, IsTrue, length, MatchOption};
 ghost use Rattle.tv_spec_plane.specs.Plane.{Segment};
-ghost use Rattle.tv_spec_hull.specs.Members.{Among};
-ghost use Rattle.tv_spec_hull.specs.Edges.{sides};
+ghost use Rattle.tv_laws_tiling.specs.Members.{Among};
+ghost use Rattle.tv_laws_tiling.specs.Edges.{sides};
 ghost use Rattle.tv_hull.specs.Pairs.{IsFirst, IsFirstPair};
 ghost use Rattle.tv_triangulation.specs.Checks.{IsShared, IsTwice, NoPair};
 

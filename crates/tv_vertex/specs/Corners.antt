@@ -5,7 +5,7 @@
 use Rattle.std.specs.Prelude.{ℕ, suc, pos}
 use Rattle.tv_ring.specs.Operations.{Operations}
 use Rattle.tv_ring.specs.Sums.{times}
-use Rattle.tv_terms.specs.Terms.{Terms, terms, listed}
+use Rattle.tv_laws_series.specs.Terms.{Terms, terms, listed}
 use Rattle.tv_cells.specs.declared.legs.Legs.{Legs}
 use Rattle.tv_cells.specs.Extras.{count}
 

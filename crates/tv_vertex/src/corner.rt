@@ -5,10 +5,10 @@ ghost use Rattle.tv_ring.specs.Operations.{limit};
 ghost use Rattle.tv_cells.specs.Extras.{count};
 ghost use Rattle.tv_vertex.specs.Corners.{corner_terms};
 
+use crate::listing::extras_times;
 use std::alloc::Global;
 use tv_cells::legs::Legs;
 use tv_laurent::Series;
-use tv_plain::listing::extras_times;
 use tv_ring::{Ring, RingFault};
 
 /// The series from exponent 0, known through `k`: the coefficient at i is the number of sets of i boxes beside the legs,

@@ -1,8 +1,13 @@
 //! The series of one corner: how many sets of boxes stand beside its legs, by their number, over any ring. It knows no web
-//! and no edge.
+//! and no edge. The count is a plain one (`listing`): it lists the cells of a cube, chooses among them and tests each choice.
 #![tactic(auto)]
 
 mod corner;
+pub mod fault;
+pub mod grid;
+pub mod listing;
+#[cfg(test)]
+mod listing_tests;
 #[cfg(test)]
 mod tests;
 

@@ -2,9 +2,9 @@
 --
 -- left ts a b t == the owners among the triangles from t on
 use Rattle.std.specs.Prelude.{◌≡◌, ℕ, zero, suc, ◌+◌, ◌-◌, ◌<◌, ◌≤◌, Bool, true, false, cond, List, [], ◌∷◌, filter, length}
+use Rattle.std.specs.List.{range_with_len}
 use Rattle.std.proofs.Common.{refl, sym, ap, ◌∙◌, arith, add-one}
 use Rattle.tv_spec_plane.specs.declared.records.Triple.{Triple}
-use Rattle.tv_spec_plane.specs.Web.{numbers_from}
 use Rattle.tv_web.specs.declared.owners.Found.{Found}
 use Rattle.tv_web.specs.declared.owners.Found.TheVariants.{Nothing, More}
 use Rattle.tv_web.specs.Found.{owns, owners_in, found_of, and_also, and_all}
@@ -19,22 +19,22 @@ and_all-nothing (t ∷ []) = refl
 and_all-nothing (t ∷ u ∷ []) = refl
 and_all-nothing (t ∷ u ∷ v ∷ ts) = and_all-more ts
 
-pub length-numbers_from : (k n : ℕ) → length (numbers_from k n) ≡ n
-length-numbers_from k zero = refl
-length-numbers_from k (suc n) = ap suc (length-numbers_from (suc k) n)
+pub length-range_with_len : (k n : ℕ) → length (range_with_len k n) ≡ n
+length-range_with_len k zero = refl
+length-range_with_len k (suc n) = ap suc (length-range_with_len (suc k) n)
 
-pub numbers_from-step : (k n : ℕ) → k < n → numbers_from k (n - k) ≡ k ∷ numbers_from (suc k) (n - suc k)
-numbers_from-step k n h =
+pub range_with_len-step : (k n : ℕ) → k < n → range_with_len k (n - k) ≡ k ∷ range_with_len (suc k) (n - suc k)
+range_with_len-step k n h =
     let e : n - k ≡ suc (n - suc k) = omega arith in
-    ap (numbers_from k) e
+    ap (range_with_len k) e
 
-pub numbers_from-end : (k n : ℕ) → n ≤ k → numbers_from k (n - k) ≡ []
-numbers_from-end k n h =
+pub range_with_len-end : (k n : ℕ) → n ≤ k → range_with_len k (n - k) ≡ []
+range_with_len-end k n h =
     let e : n - k ≡ 0 = omega arith in
-    ap (numbers_from k) e
+    ap (range_with_len k) e
 
 unfoldable pub left : List Triple → ℕ → ℕ → ℕ → List ℕ
-left ts a b t = filter (owns ts a b) (numbers_from t (length ts - t))
+left ts a b t = filter (owns ts a b) (range_with_len t (length ts - t))
 
 and_all-cond : (f : Found) (t : ℕ) (ts : List ℕ) (test : Bool) → and_all (cond test (and_also f t) f) ts ≡ and_all f (cond test (t ∷ ts) ts)
 and_all-cond f t ts true = refl
@@ -45,13 +45,13 @@ pub finds_first : (ts : List Triple) (a b : ℕ) → and_all Nothing (left ts a 
 unfolding left owners_in
 finds_first ts a b =
     let whole : length ts - 0 ≡ length ts = omega arith in
-    and_all-nothing (left ts a b 0) ∙ ap (λ n. found_of (filter (owns ts a b) (numbers_from 0 n))) whole
+    and_all-nothing (left ts a b 0) ∙ ap (λ n. found_of (filter (owns ts a b) (range_with_len 0 n))) whole
 
 pub finds_next : (ts : List Triple) (a b t : ℕ) (f g whole : Found) → t < length ts → g ≡ cond (owns ts a b t) (and_also f t) f → and_all f (left ts a b t) ≡ whole → and_all g (left ts a b (t + 1)) ≡ whole
 unfolding left
 finds_next ts a b t f g whole h e was =
-    rw (add-one, e) (and_all-cond f t (filter (owns ts a b) (numbers_from (suc t) (length ts - suc t))) (owns ts a b t) ∙ (sym (ap (λ ns. and_all f (filter (owns ts a b) ns)) (numbers_from-step t (length ts) h)) ∙ was))
+    rw (add-one, e) (and_all-cond f t (filter (owns ts a b) (range_with_len (suc t) (length ts - suc t))) (owns ts a b t) ∙ (sym (ap (λ ns. and_all f (filter (owns ts a b) ns)) (range_with_len-step t (length ts) h)) ∙ was))
 
 pub finds_last : (ts : List Triple) (a b t : ℕ) (f whole : Found) → length ts ≤ t → and_all f (left ts a b t) ≡ whole → f ≡ whole
 unfolding left
-finds_last ts a b t f whole h was = sym (ap (λ ns. and_all f (filter (owns ts a b) ns)) (numbers_from-end t (length ts) h)) ∙ was
+finds_last ts a b t f whole h was = sym (ap (λ ns. and_all f (filter (owns ts a b) ns)) (range_with_len-end t (length ts) h)) ∙ was

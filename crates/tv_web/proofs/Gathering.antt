@@ -1,17 +1,16 @@
 -- Lists gathered one after the other.
 use Rattle.std.specs.Prelude.{◌≡◌, ℕ, suc, ◌+◌, ◌-◌, ◌<◌, ◌≤◌, List, ◌++◌}
-use Rattle.std.specs.List.{flat_map}
+use Rattle.std.specs.List.{flat_map, range_with_len}
 use Rattle.std.proofs.Common.{sym, ap, ◌∙◌, append_assoc, append-nil, add-one}
-use Rattle.tv_spec_plane.specs.Web.{numbers_from}
 use Rattle.tv_web.specs.Edges.{gathered}
-use Rattle.tv_web.proofs.Finding.{numbers_from-step, numbers_from-end}
+use Rattle.tv_web.proofs.Finding.{range_with_len-step, range_with_len-end}
 
 -- before the first, over one, and behind the last
 pub gathers_next : {A : Type 0} (g : ℕ → List A) (k n : ℕ) (done more whole : List A) → k < n → more ≡ done ++ g k → done ++ gathered g k n ≡ whole → more ++ gathered g (k + 1) n ≡ whole
 unfolding gathered
 gathers_next g k n done more whole h e was =
-    rw (add-one, e) (append_assoc done (g k) (flat_map g (numbers_from (suc k) (n - suc k))) ∙ (sym (ap (λ ns. done ++ flat_map g ns) (numbers_from-step k n h)) ∙ was))
+    rw (add-one, e) (append_assoc done (g k) (flat_map g (range_with_len (suc k) (n - suc k))) ∙ (sym (ap (λ ns. done ++ flat_map g ns) (range_with_len-step k n h)) ∙ was))
 
 pub gathers_last : {A : Type 0} (g : ℕ → List A) (k n : ℕ) (done whole : List A) → n ≤ k → done ++ gathered g k n ≡ whole → done ≡ whole
 unfolding gathered
-gathers_last g k n done whole h was = sym (append-nil done) ∙ (sym (ap (λ ns. done ++ flat_map g ns) (numbers_from-end k n h)) ∙ was)
+gathers_last g k n done whole h was = sym (append-nil done) ∙ (sym (ap (λ ns. done ++ flat_map g ns) (range_with_len-end k n h)) ∙ was)

@@ -13,7 +13,7 @@ use Rattle.tv_spec_plane.specs.declared.records.Corner.{Corner}
 use Rattle.tv_spec_plane.specs.Plane.{Point}
 use Rattle.tv_spec_plane.specs.Web.{Web, compact, outer, corners}
 use Rattle.tv_lattice.specs.Limits.{HasCoordinates}
-use Rattle.tv_edge_laws.specs.Rule.{HasEdgeRule}
+use Rattle.tv_laws_edges.specs.Rule.{HasEdgeRule}
 
 abbrev pub bare_web : List Point → List Triple → Web
 bare_web ps ts = record { points = ps; triangles = ts; heights = [] }

@@ -6,12 +6,12 @@
 -- gathered g k n    == the lists g k, .., g (n - 1), one after the other
 -- compact_row ts n a, outer_row ts n a == the edges of a with later points below n
 use Rattle.std.specs.Prelude.{ℕ, ◌+◌, ◌-◌, List, [], ◌∷◌, Option, Some, None}
-use Rattle.std.specs.List.{flat_map}
+use Rattle.std.specs.List.{flat_map, range_with_len}
 use Rattle.tv_spec_plane.specs.declared.records.Triple.{Triple}
 use Rattle.tv_spec_plane.specs.declared.records.CompactEdge.{CompactEdge}
 use Rattle.tv_spec_plane.specs.declared.records.OuterEdge.{OuterEdge}
 use Rattle.tv_spec_plane.specs.Tiling.{triangle_at}
-use Rattle.tv_spec_plane.specs.Web.{numbers_from, compact_by, outer_by, compact_edge, opposite}
+use Rattle.tv_spec_plane.specs.Web.{compact_by, outer_by, compact_edge, opposite}
 use Rattle.tv_web.specs.declared.owners.Found.{Found}
 use Rattle.tv_web.specs.declared.owners.Found.TheVariants.{Nothing, One, Two, More}
 use Rattle.tv_web.specs.Found.{web_on, owners_in}
@@ -39,7 +39,7 @@ unfoldable pub outer_pair : List Triple → ℕ → ℕ → List OuterEdge
 outer_pair ts a b = one (outer_by a b (owners_in ts a b))
 
 unfoldable pub gathered : {A : Type 0} → (ℕ → List A) → ℕ → ℕ → List A
-gathered g k n = flat_map g (numbers_from k (n - k))
+gathered g k n = flat_map g (range_with_len k (n - k))
 
 unfoldable pub compact_row : List Triple → ℕ → ℕ → List CompactEdge
 compact_row ts n a = gathered (compact_pair ts a) (a + 1) n

@@ -1,7 +1,7 @@
 //! The corners of a web: the places of a triangle's three edges in the lists of edges. It makes no edge.
 
 ghost use Rattle.std.specs.Prelude.{◌≡◌, ◌≤◌, ◌+◌, ◌<◌, ◌^◌, length, map, nat_eq, ◌&&◌, IfOk};
-ghost use Rattle.tv_spec_plane.specs.Web.{place_of};
+ghost use Rattle.std.specs.List.{position_or_len};
 ghost use Rattle.tv_web.specs.Corners.{names_compact, names_outer, edge_ref_in, corner_in};
 
 use crate::triples;
@@ -60,7 +60,7 @@ fn edge_ref(compact: &[CompactEdge], outer: &[OuterEdge], a: u32, b: u32) -> Edg
 // Its place among the compact edges, or their number.
 fn compact_place(compact: &[CompactEdge], a: u32, b: u32) -> u32
     requires { length compact.now < 2 ^ 32 }
-    ensures { result ≡ place_of (names_compact a b) compact.now }
+    ensures { result ≡ position_or_len (names_compact a b) compact.now }
 {
     for (k, edge) in compact.iter().enumerate() {
         if names_compact(*edge, a, b) {
@@ -73,7 +73,7 @@ fn compact_place(compact: &[CompactEdge], a: u32, b: u32) -> u32
 // Its place among the open edges, or their number.
 fn outer_place(outer: &[OuterEdge], a: u32, b: u32) -> u32
     requires { length outer.now < 2 ^ 32 }
-    ensures { result ≡ place_of (names_outer a b) outer.now }
+    ensures { result ≡ position_or_len (names_outer a b) outer.now }
 {
     for (k, edge) in outer.iter().enumerate() {
         if names_outer(*edge, a, b) {

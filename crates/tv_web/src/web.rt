@@ -4,7 +4,7 @@ ghost use Rattle.std.specs.Prelude.{◌≡◌, ◌≤◌, length, IfOk};
 ghost use Rattle.std.specs.List.{AllByRecursion};
 ghost use Rattle.tv_spec_plane.specs.Web.{compact, outer, corners};
 ghost use Rattle.tv_lattice.specs.Limits.{HasCoordinates};
-ghost use Rattle.tv_edge_laws.specs.Rule.{HasEdgeRule};
+ghost use Rattle.tv_laws_edges.specs.Rule.{HasEdgeRule};
 ghost use Rattle.tv_web.specs.Built.{bare_web};
 
 use crate::corners::corners_of;

@@ -1,6 +1,5 @@
 use Rattle.std.proofs.Common.{◌≡◌, ◌+◌, ◌-◌, ◌*◌, ◌++◌, length, drop}
-use Rattle.std.specs.List.{flat_map}
-use Rattle.tv_spec_plane.specs.Web.{numbers_from}
+use Rattle.std.specs.List.{flat_map, range_with_len}
 use Rattle.tv_partition.specs.Rows.{diagrams}
 use Rattle.tv_spec_boxes.specs.Assignments.{choices}
 use Rattle.tv_assignment.specs.Listing.{behind, sized}
@@ -19,7 +18,7 @@ decreases-push_behind l = 3 * length l.later.now + 1
 abbrev pub invariant-push_choices-loop-size : goal.invariant-push_choices-loop-size
 invariant-push_choices-loop-size l = record {
   kept : l.front.items ≡ l.initial.front.items;
-  lists : l.all.items ++ flat_map (sized l.initial.front.items l.later l.left l.degree) (numbers_from l.size ((l.left + 1) - l.size)) ≡ l.initial.all.items ++ behind l.initial.front.items (choices l.degrees l.left);
+  lists : l.all.items ++ flat_map (sized l.initial.front.items l.later l.left l.degree) (range_with_len l.size ((l.left + 1) - l.size)) ≡ l.initial.all.items ++ behind l.initial.front.items (choices l.degrees l.left);
 }
 
 abbrev pub invariant-push_sized-loop-k : goal.invariant-push_sized-loop-k

@@ -1,6 +1,6 @@
 use Rattle.std.proofs.Common.{◌≡◌, [], ◌∙◌, length, sym, ap, arith}
 use Rattle.std.proofs.lemmas.Int.{ints}
-use Rattle.tv_terms.proofs.Listed.{listed-none, listed_push, length-listed}
+use Rattle.tv_laws_series.proofs.Listed.{listed-none, listed_push, length-listed}
 use Rattle.tv_assignment.specs.Terms.{front_times}
 use Rattle.tv_assignment.proofs.Fronts.{unit-first, unit-later}
 use Rattle.tv_assignment.proofs.product.unit.Goals as goal

@@ -1,5 +1,5 @@
 use Rattle.std.proofs.Common.{◌≡◌, ◌<◌, []}
-use Rattle.tv_terms.specs.Terms.{listed}
+use Rattle.tv_laws_series.specs.Terms.{listed}
 use Rattle.tv_assignment.specs.Terms.{front_times}
 use Rattle.tv_assignment.proofs.product.unit.Given as goal
 

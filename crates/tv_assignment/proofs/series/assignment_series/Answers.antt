@@ -1,10 +1,10 @@
 use Rattle.std.proofs.Common.{◌≡◌, ◌∙◌, ap, arith, w64, to_z, of_z, length, suc, ◌+◌}
 use Rattle.std.specs.Prelude.{pos, ◌+ℤ◌}
 use Rattle.std.proofs.lemmas.Result.{err_from_is_err_and}
-use Rattle.tv_terms.specs.Terms.{Terms}
-use Rattle.tv_terms.proofs.Listed.{length-listed}
+use Rattle.tv_laws_series.specs.Terms.{Terms}
+use Rattle.tv_laws_series.proofs.Listed.{length-listed}
 use Rattle.tv_spec_boxes.specs.Assignments.{no_legs, edge_twist}
-use Rattle.tv_gluing.specs.Ways.{start_of}
+use Rattle.tv_laws_counts.specs.Ways.{start_of}
 use Rattle.tv_assignment.specs.Terms.{front_times}
 use Rattle.tv_assignment.proofs.Assembled.{start-is, none-known, all-known, too-many, read_after, read_lesser, read_greater, read_start, read_left, read_first, start-bounded}
 use Rattle.tv_assignment.proofs.series.assignment_series.Goals as goal

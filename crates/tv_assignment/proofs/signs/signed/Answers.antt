@@ -1,5 +1,5 @@
 use Rattle.std.proofs.Common.{◌∙◌, sym, w64, to_z, of_z}
-use Rattle.tv_terms.proofs.Listed.{listed-none, listed_push}
+use Rattle.tv_laws_series.proofs.Listed.{listed-none, listed_push}
 use Rattle.tv_assignment.specs.Terms.{signed}
 use Rattle.tv_assignment.proofs.signs.signed.Goals as goal
 

@@ -1,5 +1,5 @@
 use Rattle.std.proofs.Common.{◌≡◌}
-use Rattle.tv_terms.specs.Terms.{listed}
+use Rattle.tv_laws_series.specs.Terms.{listed}
 use Rattle.tv_assignment.specs.Terms.{signed}
 use Rattle.tv_assignment.proofs.signs.signed.Given as goal
 

@@ -1,7 +1,7 @@
 use Rattle.std.proofs.Common.{rules, w64, FitsSigned, arith}
 use Rattle.std.proofs.lemmas.Int.{to_z-of_z}
 use Rattle.tv_lattice.proofs.Sums.{small-fits}
-use Rattle.tv_edge_laws.proofs.Rules.{edge_rule}
+use Rattle.tv_laws_edges.proofs.Rules.{edge_rule}
 use Rattle.tv_degrees.proofs.relation.relation.Goals as goal
 
 pub returns : goal.returns

@@ -1,6 +1,6 @@
 use Rattle.std.proofs.Common.{take}
 use Rattle.tv_spec_boxes.specs.Assignments.{no_legs}
-use Rattle.tv_glue_laws.specs.Glued.{IsGlued}
+use Rattle.tv_laws_families.specs.Glued.{IsGlued}
 use Rattle.tv_glue.proofs.glued.full.Given as goal
 
 abbrev pub invariant-loop-k : goal.invariant-loop-k

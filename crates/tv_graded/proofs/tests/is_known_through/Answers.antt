@@ -2,7 +2,7 @@ use Rattle.std.proofs.Common.{◌≡◌, ℕ, suc, ◌<◌, ◌≤ℤ◌, List, 
 use Rattle.std.specs.List.{AllByRecursion}
 use Rattle.std.proofs.lemmas.Int.{ints, clamps}
 use Rattle.std.proofs.lemmas.Bool.{cases_lt}
-use Rattle.tv_terms.specs.Quotients.{quotient_upto}
+use Rattle.tv_laws_series.specs.Quotients.{quotient_upto}
 use Rattle.tv_spec_series.specs.Families.{row}
 use Rattle.tv_graded.proofs.tests.is_known_through.Goals as goal
 

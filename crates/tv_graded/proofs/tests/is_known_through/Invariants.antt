@@ -1,5 +1,5 @@
 use Rattle.std.proofs.Common.{◌≡◌, ℕ, ◌<◌, ◌≤ℤ◌, Some, slice_get}
-use Rattle.tv_terms.specs.Quotients.{quotient_upto}
+use Rattle.tv_laws_series.specs.Quotients.{quotient_upto}
 use Rattle.tv_spec_series.specs.Families.{Row}
 use Rattle.tv_graded.proofs.tests.is_known_through.Given as goal
 

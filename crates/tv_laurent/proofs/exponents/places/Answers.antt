@@ -1,6 +1,6 @@
 use Rattle.std.proofs.Common.{arith}
 use Rattle.std.proofs.lemmas.Int.{ints}
-use Rattle.tv_terms.proofs.Exponents.{above_is}
+use Rattle.tv_laws_series.proofs.Exponents.{above_is}
 use Rattle.tv_laurent.proofs.exponents.places.Goals as goal
 
 pub returns-clause-value : goal.returns-clause-value

@@ -1,7 +1,7 @@
 use Rattle.std.proofs.Common.{◌≡◌, ◌∙◌, ◌-◌, sym, arith, inl, inr}
 use Rattle.std.proofs.lemmas.Bool.{cases_lt}
 use Rattle.tv_ring.specs.Sums.{at}
-use Rattle.tv_terms.proofs.Listed.{at_read, at_past}
+use Rattle.tv_laws_series.proofs.Listed.{at_read, at_past}
 use Rattle.tv_laurent.proofs.normal.ending.Goals as goal
 
 pub loop-end-init : goal.loop-end-init

@@ -1,7 +1,7 @@
 use Rattle.std.proofs.Common.{◌∙◌, sym}
 use Rattle.tv_ring.specs.Sums.{at}
-use Rattle.tv_terms.proofs.Listed.{at_read, listed-none, listed_push}
-use Rattle.tv_terms.proofs.PolyFrom.{negatives_is}
+use Rattle.tv_laws_series.proofs.Listed.{at_read, listed-none, listed_push}
+use Rattle.tv_laws_series.proofs.PolyFrom.{negatives_is}
 use Rattle.tv_laurent.proofs.poly.negatives_of.Goals as goal
 
 pub loop-coefficient-init : goal.loop-coefficient-init

@@ -1,7 +1,7 @@
 use Rattle.std.proofs.Common.{◌≡◌}
 use Rattle.tv_ring.specs.Sums.{at}
-use Rattle.tv_terms.specs.Terms.{listed}
-use Rattle.tv_terms.specs.Polynomials.{negatives}
+use Rattle.tv_laws_series.specs.Terms.{listed}
+use Rattle.tv_laws_series.specs.Polynomials.{negatives}
 use Rattle.tv_laurent.proofs.poly.negatives_of.Given as goal
 
 abbrev pub invariant-loop-coefficient : goal.invariant-loop-coefficient

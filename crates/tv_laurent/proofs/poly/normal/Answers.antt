@@ -1,8 +1,8 @@
 use Rattle.std.proofs.Common.{length, pos, ap, arith}
 use Rattle.std.proofs.lemmas.Int.{ints}
-use Rattle.tv_terms.specs.Terms.{terms}
-use Rattle.tv_terms.specs.Polynomials.{normal, poly_zero}
-use Rattle.tv_terms.proofs.PolyKept.{same_kept, zero_kept, normal_kept}
+use Rattle.tv_laws_series.specs.Terms.{terms}
+use Rattle.tv_laws_series.specs.Polynomials.{normal, poly_zero}
+use Rattle.tv_laws_series.proofs.PolyKept.{same_kept, zero_kept, normal_kept}
 use Rattle.tv_laurent.proofs.PolyResults.{nothing_left, what_is_left}
 use Rattle.tv_laurent.proofs.poly.normal.Goals as goal
 

@@ -1,9 +1,9 @@
 use Rattle.std.proofs.Common.{◌≡◌, ◌+◌, suc, ◌∙◌, ap, arith, refl, sym, to_z, of_z, w64}
 use Rattle.std.proofs.lemmas.Int.{ints}
 use Rattle.tv_ring.specs.Sums.{at}
-use Rattle.tv_terms.specs.Polynomials.{greatest_below}
-use Rattle.tv_terms.proofs.Listed.{at_read}
-use Rattle.tv_terms.proofs.PolyReach.{greatest-none, greatest-more}
+use Rattle.tv_laws_series.specs.Polynomials.{greatest_below}
+use Rattle.tv_laws_series.proofs.Listed.{at_read}
+use Rattle.tv_laws_series.proofs.PolyReach.{greatest-none, greatest-more}
 use Rattle.tv_laurent.specs.PolyCalls.{outward}
 use Rattle.tv_laurent.proofs.PolyResults.{outward_is}
 use Rattle.tv_laurent.proofs.poly.reach_of.Goals as goal

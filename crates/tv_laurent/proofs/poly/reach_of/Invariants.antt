@@ -1,6 +1,6 @@
 use Rattle.std.proofs.Common.{◌≡◌}
 use Rattle.tv_ring.specs.Sums.{at}
-use Rattle.tv_terms.specs.Polynomials.{greatest_below}
+use Rattle.tv_laws_series.specs.Polynomials.{greatest_below}
 use Rattle.tv_laurent.specs.PolyCalls.{outward}
 use Rattle.tv_laurent.proofs.poly.reach_of.Given as goal
 

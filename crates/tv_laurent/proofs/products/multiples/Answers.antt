@@ -1,8 +1,8 @@
 use Rattle.std.proofs.Common.{◌∙◌, sym, arith, ap, Err}
 use Rattle.std.proofs.lemmas.Int.{ints}
 use Rattle.tv_ring.specs.Sums.{at}
-use Rattle.tv_terms.proofs.Listed.{listed-none, listed_push, at_read}
-use Rattle.tv_terms.proofs.Padded.{scaled_is}
+use Rattle.tv_laws_series.proofs.Listed.{listed-none, listed_push, at_read}
+use Rattle.tv_laws_series.proofs.Padded.{scaled_is}
 use Rattle.tv_laurent.proofs.SeriesCalls.{scale_size_is}
 use Rattle.tv_laurent.proofs.Wide.{on_wide}
 use Rattle.tv_laurent.proofs.products.multiples.Goals as goal

@@ -1,6 +1,6 @@
 use Rattle.std.proofs.Common.{◌<◌, ◌-◌, length, arith}
 use Rattle.std.proofs.lemmas.Result.{err_from_is_err_and}
-use Rattle.tv_terms.proofs.Listed.{at_read}
+use Rattle.tv_laws_series.proofs.Listed.{at_read}
 use Rattle.tv_laurent.proofs.Convolved.{summed_none, summed_more, summed_all, term_wide, sum_wide}
 use Rattle.tv_laurent.proofs.products.product_at.Goals as goal
 

@@ -1,7 +1,7 @@
 use Rattle.std.proofs.Common.{◌∙◌, sym, arith, ap, Err, ◌<◌, length}
 use Rattle.std.proofs.lemmas.Int.{ints}
 use Rattle.tv_ring.specs.Sums.{at}
-use Rattle.tv_terms.proofs.Listed.{at_read}
+use Rattle.tv_laws_series.proofs.Listed.{at_read}
 use Rattle.tv_laurent.proofs.Divided.{quotients-none, quotients_push, found_wide, found_reaches, value_found}
 use Rattle.tv_laurent.proofs.Wide.{on_wide}
 use Rattle.tv_laurent.proofs.quotients.quotients.Goals as goal

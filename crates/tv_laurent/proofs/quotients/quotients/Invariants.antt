@@ -1,6 +1,6 @@
 use Rattle.std.proofs.Common.{◌≡◌}
 use Rattle.tv_ring.specs.Sums.{at}
-use Rattle.tv_terms.specs.Quotients.{quotients}
+use Rattle.tv_laws_series.specs.Quotients.{quotients}
 use Rattle.tv_laurent.proofs.quotients.quotients.Given as goal
 
 abbrev pub invariant-loop-place : goal.invariant-loop-place

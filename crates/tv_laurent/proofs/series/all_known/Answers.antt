@@ -1,5 +1,5 @@
 use Rattle.std.proofs.Common.{arith}
-use Rattle.tv_terms.proofs.Listed.{values_all, values_more}
+use Rattle.tv_laws_series.proofs.Listed.{values_all, values_more}
 use Rattle.tv_laurent.proofs.series.all_known.Goals as goal
 
 pub loop-coefficient-preserved : goal.loop-coefficient-preserved

@@ -1,7 +1,7 @@
 use Rattle.std.proofs.Common.{◌∙◌, ◌-◌, sym, arith}
 use Rattle.tv_ring.specs.Sums.{at}
-use Rattle.tv_terms.proofs.Listed.{at_past, read_at}
-use Rattle.tv_terms.proofs.Padded.{padded_before, padded_after}
+use Rattle.tv_laws_series.proofs.Listed.{at_past, read_at}
+use Rattle.tv_laws_series.proofs.Padded.{padded_before, padded_after}
 use Rattle.tv_laurent.proofs.sums.placed.Goals as goal
 
 pub returns-then-place-before : goal.returns-then-place-before

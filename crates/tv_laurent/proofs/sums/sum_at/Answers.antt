@@ -1,7 +1,7 @@
 use Rattle.tv_ring.specs.Sums.{at}
 use Rattle.tv_ring.proofs.Rings.{nought-add}
-use Rattle.tv_terms.specs.Terms.{padded}
-use Rattle.tv_terms.proofs.Padded.{plus_is, value_padded}
+use Rattle.tv_laws_series.specs.Terms.{padded}
+use Rattle.tv_laws_series.proofs.Padded.{plus_is, value_padded}
 use Rattle.tv_laurent.proofs.SeriesCalls.{sum_size_is}
 use Rattle.tv_laurent.proofs.sums.sum_at.Goals as goal
 

@@ -1,6 +1,6 @@
 use Rattle.std.proofs.Common.{◌∙◌, sym, arith, ap, Err}
 use Rattle.std.proofs.lemmas.Int.{ints}
-use Rattle.tv_terms.proofs.Listed.{listed-none, listed_push}
+use Rattle.tv_laws_series.proofs.Listed.{listed-none, listed_push}
 use Rattle.tv_laurent.proofs.Wide.{on_wide}
 use Rattle.tv_laurent.proofs.sums.sums.Goals as goal
 

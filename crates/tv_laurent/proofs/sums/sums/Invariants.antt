@@ -1,6 +1,6 @@
 use Rattle.std.proofs.Common.{◌≡◌}
 use Rattle.tv_ring.specs.Sums.{at}
-use Rattle.tv_terms.specs.Terms.{listed, padded, plus}
+use Rattle.tv_laws_series.specs.Terms.{listed, padded, plus}
 use Rattle.tv_laurent.proofs.sums.sums.Given as goal
 
 abbrev pub invariant-loop-place : goal.invariant-loop-place

@@ -1,8 +1,8 @@
 use Rattle.std.proofs.Common.{◌≡◌, ◌+◌, pos, refl, arith}
-use Rattle.tv_terms.specs.Terms.{Terms, upto}
+use Rattle.tv_laws_series.specs.Terms.{Terms, upto}
 use Rattle.tv_spec_boxes.specs.Assignments.{no_legs}
 use Rattle.tv_spec_series.specs.Families.{row}
-use Rattle.tv_reduced_laws.specs.Families.{IsDivisor}
+use Rattle.tv_spec_series.specs.ReducedFamilies.{IsDivisor}
 use Rattle.tv_reduced.specs.Divisors.{from_zero}
 use Rattle.tv_reduced.proofs.Divisors.{is_divisor, from_zero-upto}
 use Rattle.tv_reduced.proofs.ZeroRows.{zero_rows, zero_first}

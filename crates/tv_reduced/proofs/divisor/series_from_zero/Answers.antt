@@ -1,6 +1,6 @@
 use Rattle.std.proofs.Common.{◌≡◌, ◌∙◌, length, sym, ap, arith}
 use Rattle.std.proofs.lemmas.Int.{ints}
-use Rattle.tv_terms.proofs.Listed.{listed-none, listed_push, length-listed}
+use Rattle.tv_laws_series.proofs.Listed.{listed-none, listed_push, length-listed}
 use Rattle.tv_reduced.specs.Divisors.{counted}
 use Rattle.tv_reduced.proofs.divisor.series_from_zero.Goals as goal
 

@@ -1,5 +1,5 @@
 use Rattle.std.proofs.Common.{◌≡◌}
-use Rattle.tv_terms.specs.Terms.{listed}
+use Rattle.tv_laws_series.specs.Terms.{listed}
 use Rattle.tv_reduced.specs.Divisors.{counted}
 use Rattle.tv_reduced.proofs.divisor.series_from_zero.Given as goal
 

@@ -4,9 +4,9 @@ use Rattle.std.proofs.lemmas.Int.{ints}
 use Rattle.tv_spec_boxes.specs.Assignments.{no_legs}
 use Rattle.tv_spec_series.specs.Families.{Family, divided}
 use Rattle.tv_graded.specs.Calls.{IsDividedWide}
-use Rattle.tv_reduced_laws.specs.Families.{IsReducedFamily}
-use Rattle.tv_reduced_laws.proofs.ZeroClass.{begins_with_one}
-use Rattle.tv_reduced_laws.proofs.Families.{divided_is_reduced}
+use Rattle.tv_spec_series.specs.ReducedFamilies.{IsReducedFamily}
+use Rattle.tv_laws_families.proofs.ZeroClass.{begins_with_one}
+use Rattle.tv_laws_families.proofs.ReducedFamilies.{divided_is_reduced}
 use Rattle.tv_reduced.specs.Faults.{IsReducedFault, OnSpread}
 use Rattle.tv_reduced.proofs.Results.{on_ok, on_err}
 use Rattle.tv_reduced.proofs.Divisions.{rows_known, crowd_later, rows_reach, fault_spread, no_legs_diagrams}

@@ -1,5 +1,5 @@
 use Rattle.std.proofs.Common.{◌≡◌, take}
-use Rattle.tv_spec_hull.specs.Edges.{edges}
+use Rattle.tv_laws_tiling.specs.Edges.{edges}
 use Rattle.tv_triangulation.proofs.edges.edges_of.Given as goal
 
 abbrev pub invariant-loop-t : goal.invariant-loop-t

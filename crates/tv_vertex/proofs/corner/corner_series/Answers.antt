@@ -1,6 +1,6 @@
 use Rattle.std.proofs.Common.{◌≡◌, ◌∙◌, length, sym, ap, arith}
 use Rattle.std.proofs.lemmas.Int.{ints}
-use Rattle.tv_terms.proofs.Listed.{listed-none, listed_push, length-listed}
+use Rattle.tv_laws_series.proofs.Listed.{listed-none, listed_push, length-listed}
 use Rattle.tv_vertex.specs.Corners.{extras_times}
 use Rattle.tv_vertex.proofs.Corners.{extras_times-is}
 use Rattle.tv_vertex.proofs.corner.corner_series.Goals as goal

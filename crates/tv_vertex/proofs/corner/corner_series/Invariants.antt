@@ -1,5 +1,5 @@
 use Rattle.std.proofs.Common.{◌≡◌}
-use Rattle.tv_terms.specs.Terms.{listed}
+use Rattle.tv_laws_series.specs.Terms.{listed}
 use Rattle.tv_vertex.specs.Corners.{extras_times}
 use Rattle.tv_vertex.proofs.corner.corner_series.Given as goal
 

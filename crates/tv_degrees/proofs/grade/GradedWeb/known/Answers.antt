@@ -1,6 +1,6 @@
 use Rattle.std.proofs.Common.{subst}
 use Rattle.tv_spec_plane.specs.Web.{Web}
-use Rattle.tv_edge_laws.specs.Rule.{HasEdgeRule}
+use Rattle.tv_laws_edges.specs.Rule.{HasEdgeRule}
 use Rattle.tv_degrees.proofs.Heights.{HasEdgeRule-heights}
 use Rattle.tv_degrees.proofs.grade.GradedWeb.known.Goals as goal
 

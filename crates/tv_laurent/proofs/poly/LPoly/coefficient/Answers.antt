@@ -1,8 +1,8 @@
 use Rattle.std.proofs.Common.{◌≡◌, ◌<◌, length, arith, inr, to_z, of_z, w64, ◌∙◌, refl}
 use Rattle.std.proofs.lemmas.Int.{ints}
-use Rattle.tv_terms.specs.Terms.{above}
-use Rattle.tv_terms.proofs.Exponents.{above_is}
-use Rattle.tv_terms.proofs.Listed.{read_at}
+use Rattle.tv_laws_series.specs.Terms.{above}
+use Rattle.tv_laws_series.proofs.Exponents.{above_is}
+use Rattle.tv_laws_series.proofs.Listed.{read_at}
 use Rattle.tv_laurent.proofs.poly.LPoly.coefficient.Goals as goal
 
 pub overflow_add-end : goal.overflow_add-end

@@ -1,6 +1,6 @@
 use Rattle.std.proofs.Common.{◌≡◌, ◌∷◌, [], ◌∙◌, refl, arith, le_trans, to_z, of_z, w64}
 use Rattle.std.proofs.lemmas.Int.{ints}
-use Rattle.tv_terms.proofs.PolyKept.{value_single_row, term_reach}
+use Rattle.tv_laws_series.proofs.PolyKept.{value_single_row, term_reach}
 use Rattle.tv_laurent.proofs.poly.LPoly.term.Goals as goal
 
 pub normal-requires-clause-values : goal.normal-requires-clause-values

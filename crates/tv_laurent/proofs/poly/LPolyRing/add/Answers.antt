@@ -1,8 +1,8 @@
 use Rattle.std.proofs.Common.{◌≡◌, ◌∙◌, length, arith, ap, to_z, of_z, w64, refl}
 use Rattle.std.specs.Int.{int_min}
 use Rattle.std.proofs.lemmas.Int.{ints, clamps}
-use Rattle.tv_terms.specs.Terms.{terms, above}
-use Rattle.tv_terms.proofs.Exponents.{above_is}
+use Rattle.tv_laws_series.specs.Terms.{terms, above}
+use Rattle.tv_laws_series.proofs.Exponents.{above_is}
 use Rattle.tv_laurent.proofs.PolyResults.{sum_row, sum_fault, length_is}
 use Rattle.tv_laurent.proofs.poly.LPolyRing.add.Goals as goal
 

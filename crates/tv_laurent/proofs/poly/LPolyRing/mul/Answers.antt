@@ -1,8 +1,8 @@
 use Rattle.std.proofs.Common.{◌≤◌, ◌+◌, length, ◌+ℤ◌, arith, ap, refl}
 use Rattle.std.proofs.lemmas.Int.{ints}
 use Rattle.tv_ring.specs.Operations.{reach_limit}
-use Rattle.tv_terms.specs.Terms.{terms}
-use Rattle.tv_terms.specs.Polynomials.{poly_reach}
+use Rattle.tv_laws_series.specs.Terms.{terms}
+use Rattle.tv_laws_series.specs.Polynomials.{poly_reach}
 use Rattle.tv_laurent.proofs.PolyResults.{product_row, product_fault, product_low, product_count, product_reaches, length_is}
 use Rattle.tv_laurent.proofs.poly.LPolyRing.mul.Goals as goal
 

@@ -1,6 +1,6 @@
 use Rattle.std.proofs.Common.{length, ap, arith, refl}
 use Rattle.std.proofs.lemmas.Int.{ints}
-use Rattle.tv_terms.specs.Terms.{terms}
+use Rattle.tv_laws_series.specs.Terms.{terms}
 use Rattle.tv_laurent.proofs.PolyResults.{negative_row, length_is}
 use Rattle.tv_laurent.proofs.poly.LPolyRing.neg.Goals as goal
 

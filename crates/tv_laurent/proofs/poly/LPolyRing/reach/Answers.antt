@@ -1,9 +1,9 @@
 use Rattle.std.proofs.Common.{◌≡◌, length, ◌∙◌, ap, arith, le_trans, to_z, of_z, w64}
 use Rattle.std.proofs.lemmas.Int.{ints}
 use Rattle.tv_ring.specs.Sums.{at}
-use Rattle.tv_terms.specs.Terms.{terms}
-use Rattle.tv_terms.specs.Polynomials.{poly_reach}
-use Rattle.tv_terms.proofs.PolyKept.{greatest_is_reach, outward_within}
+use Rattle.tv_laws_series.specs.Terms.{terms}
+use Rattle.tv_laws_series.specs.Polynomials.{poly_reach}
+use Rattle.tv_laws_series.proofs.PolyKept.{greatest_is_reach, outward_within}
 use Rattle.tv_laurent.specs.PolyCalls.{outward}
 use Rattle.tv_laurent.proofs.PolyResults.{outward_is}
 use Rattle.tv_laurent.proofs.poly.LPolyRing.reach.Goals as goal

@@ -1,7 +1,7 @@
 use Rattle.std.proofs.Common.{pos, ap}
-use Rattle.tv_terms.specs.Terms.{terms}
-use Rattle.tv_terms.specs.Polynomials.{poly_zero}
-use Rattle.tv_terms.proofs.PolyKept.{same_kept, zero_kept}
+use Rattle.tv_laws_series.specs.Terms.{terms}
+use Rattle.tv_laws_series.specs.Polynomials.{poly_zero}
+use Rattle.tv_laws_series.proofs.PolyKept.{same_kept, zero_kept}
 use Rattle.tv_laurent.proofs.poly.LPolyRing.zero.Goals as goal
 
 pub invariant_of-result : goal.invariant_of-result

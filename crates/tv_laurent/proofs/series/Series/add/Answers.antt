@@ -2,9 +2,9 @@ use Rattle.std.proofs.Common.{◌≡◌, ◌∙◌, length, arith, ap, to_z, of_
 use Rattle.std.specs.Int.{int_min}
 use Rattle.std.proofs.lemmas.Int.{ints, clamps}
 use Rattle.std.proofs.lemmas.Result.{err_from_is_err_and}
-use Rattle.tv_terms.specs.Terms.{terms, above}
-use Rattle.tv_terms.specs.Series.{series_sum}
-use Rattle.tv_terms.proofs.Exponents.{above_is}
+use Rattle.tv_laws_series.specs.Terms.{terms, above}
+use Rattle.tv_laws_series.specs.Series.{series_sum}
+use Rattle.tv_laws_series.proofs.Exponents.{above_is}
 use Rattle.tv_laurent.proofs.SeriesCalls.{same_series}
 use Rattle.tv_laurent.proofs.SeriesResults.{sum_result, sum_wide_result, sum_is_series}
 use Rattle.tv_laurent.proofs.series.Series.add.Goals as goal

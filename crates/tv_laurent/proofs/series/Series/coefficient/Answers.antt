@@ -1,8 +1,8 @@
 use Rattle.std.proofs.Common.{◌≡◌, ◌≤ℤ◌, pos, ◌+ℤ◌, ◌-ℤ◌, ◌<◌, length, arith}
 use Rattle.std.proofs.lemmas.Int.{ints}
-use Rattle.tv_terms.specs.Terms.{above}
-use Rattle.tv_terms.proofs.Exponents.{above_is}
-use Rattle.tv_terms.proofs.Listed.{read_at}
+use Rattle.tv_laws_series.specs.Terms.{above}
+use Rattle.tv_laws_series.proofs.Exponents.{above_is}
+use Rattle.tv_laws_series.proofs.Listed.{read_at}
 use Rattle.tv_laurent.proofs.series.Series.coefficient.Goals as goal
 
 pub returns-else-n-self : goal.returns-else-n-self

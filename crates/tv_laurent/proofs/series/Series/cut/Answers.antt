@@ -1,10 +1,10 @@
 use Rattle.std.proofs.Common.{◌∙◌, pos, ◌+ℤ◌, arith, ap, take}
 use Rattle.std.specs.Int.{int_min}
 use Rattle.std.proofs.lemmas.Int.{ints, clamps}
-use Rattle.tv_terms.specs.Terms.{terms, above}
-use Rattle.tv_terms.specs.Series.{series_cut}
-use Rattle.tv_terms.proofs.Exponents.{above_is}
-use Rattle.tv_terms.proofs.SeriesFrom.{terms-same}
+use Rattle.tv_laws_series.specs.Terms.{terms, above}
+use Rattle.tv_laws_series.specs.Series.{series_cut}
+use Rattle.tv_laws_series.proofs.Exponents.{above_is}
+use Rattle.tv_laws_series.proofs.SeriesFrom.{terms-same}
 use Rattle.tv_laurent.proofs.SeriesCalls.{same_series, cut_is_series}
 use Rattle.tv_laurent.proofs.series.Series.cut.Goals as goal
 

@@ -1,8 +1,8 @@
 use Rattle.std.proofs.Common.{length, arith, ap}
 use Rattle.std.proofs.lemmas.Int.{ints}
 use Rattle.std.proofs.lemmas.Result.{err_from_is_err_and}
-use Rattle.tv_terms.specs.Terms.{terms}
-use Rattle.tv_terms.specs.Quotients.{series_quotient}
+use Rattle.tv_laws_series.specs.Terms.{terms}
+use Rattle.tv_laws_series.specs.Quotients.{series_quotient}
 use Rattle.tv_laurent.proofs.SeriesCalls.{same_series}
 use Rattle.tv_laurent.proofs.SeriesResults.{quotient_result, quotient_wide_result, quotient_reaches, quotient_is_series}
 use Rattle.tv_laurent.proofs.series.Series.div_unit.Goals as goal

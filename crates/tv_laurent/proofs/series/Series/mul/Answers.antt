@@ -1,8 +1,8 @@
 use Rattle.std.proofs.Common.{arith}
 use Rattle.std.proofs.lemmas.Int.{ints}
 use Rattle.std.proofs.lemmas.Result.{err_from_is_err_and}
-use Rattle.tv_terms.specs.Terms.{terms}
-use Rattle.tv_terms.specs.Series.{series_product}
+use Rattle.tv_laws_series.specs.Terms.{terms}
+use Rattle.tv_laws_series.specs.Series.{series_product}
 use Rattle.tv_laurent.proofs.SeriesCalls.{same_series}
 use Rattle.tv_laurent.proofs.SeriesResults.{product_result, product_wide_result, product_is_series, product_bounded}
 use Rattle.tv_laurent.proofs.series.Series.mul.Goals as goal

@@ -1,7 +1,7 @@
 use Rattle.std.proofs.Common.{arith}
 use Rattle.std.proofs.lemmas.Int.{ints}
-use Rattle.tv_terms.specs.Terms.{terms}
-use Rattle.tv_terms.specs.Series.{series_scale}
+use Rattle.tv_laws_series.specs.Terms.{terms}
+use Rattle.tv_laws_series.specs.Series.{series_scale}
 use Rattle.tv_laurent.proofs.SeriesCalls.{same_series}
 use Rattle.tv_laurent.proofs.SeriesResults.{scale_result, scale_is_series}
 use Rattle.tv_laurent.proofs.series.Series.scale.Goals as goal

@@ -1,7 +1,7 @@
 use Rattle.std.proofs.Common.{◌+ℤ◌, arith, ap, refl}
 use Rattle.std.proofs.lemmas.Int.{ints}
-use Rattle.tv_terms.specs.Terms.{terms}
-use Rattle.tv_terms.proofs.SeriesFrom.{terms-same}
+use Rattle.tv_laws_series.specs.Terms.{terms}
+use Rattle.tv_laws_series.proofs.SeriesFrom.{terms-same}
 use Rattle.tv_laurent.proofs.SeriesCalls.{same_series, shift_is_series}
 use Rattle.tv_laurent.proofs.series.Series.shift.Goals as goal
 

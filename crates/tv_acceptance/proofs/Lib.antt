@@ -1,5 +1,0 @@
-pub mod Spread
-pub mod Turning
-pub mod Tiled
-pub mod OneTriangle
-pub mod Accepted

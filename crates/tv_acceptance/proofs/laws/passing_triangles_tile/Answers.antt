@@ -1,5 +1,0 @@
-use Rattle.tv_acceptance.proofs.Accepted.{passing_triangles_tile}
-use Rattle.tv_acceptance.proofs.laws.passing_triangles_tile.Goals as goal
-
-pub returns : goal.returns
-returns c = passing_triangles_tile

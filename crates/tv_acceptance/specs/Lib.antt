@@ -1,2 +1,0 @@
-pub mod Triangulated
-pub mod Laws

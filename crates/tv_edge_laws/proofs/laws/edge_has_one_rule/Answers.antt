@@ -1,5 +1,0 @@
-use Rattle.tv_edge_laws.proofs.Rules.{edge_rule}
-use Rattle.tv_edge_laws.proofs.laws.edge_has_one_rule.Goals as goal
-
-pub returns : goal.returns
-returns c = edge_rule

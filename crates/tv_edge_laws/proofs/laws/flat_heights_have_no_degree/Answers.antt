@@ -1,5 +1,0 @@
-use Rattle.tv_edge_laws.proofs.Classes.{flat_degree}
-use Rattle.tv_edge_laws.proofs.laws.flat_heights_have_no_degree.Goals as goal
-
-pub returns : goal.returns
-returns c = flat_degree

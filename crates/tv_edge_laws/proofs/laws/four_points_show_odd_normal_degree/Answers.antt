@@ -1,5 +1,0 @@
-use Rattle.tv_edge_laws.proofs.Shown.{four_parities}
-use Rattle.tv_edge_laws.proofs.laws.four_points_show_odd_normal_degree.Goals as goal
-
-pub returns : goal.returns
-returns c = four_parities

@@ -1,4 +1,0 @@
-pub mod Squares
-pub mod Sides
-pub mod Diagonals
-mod Edges

@@ -1,5 +1,0 @@
-use Rattle.tv_examples.proofs.Diagonals.{diagonals_tile}
-use Rattle.tv_examples.proofs.laws.diagonals_of_the_square_tile.Goals as goal
-
-pub returns : goal.returns
-returns c = diagonals_tile

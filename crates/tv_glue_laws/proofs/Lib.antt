@@ -1,4 +1,0 @@
-pub mod Totals
-pub mod Glued
-pub mod Full
-pub mod Wide

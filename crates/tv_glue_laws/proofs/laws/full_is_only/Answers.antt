@@ -1,5 +1,0 @@
-use Rattle.tv_glue_laws.proofs.Full.{full_is_only}
-use Rattle.tv_glue_laws.proofs.laws.full_is_only.Goals as goal
-
-pub returns : goal.returns
-returns g c = record { law = full_is_only g.C.Ring.ring }

@@ -1,5 +1,0 @@
-use Rattle.tv_gluing.proofs.Degrees.{assignments_listed}
-use Rattle.tv_gluing.proofs.laws.assignments_are_listed.Goals as goal
-
-pub returns : goal.returns
-returns c = assignments_listed

@@ -1,5 +1,0 @@
-use Rattle.tv_gluing.proofs.Bounds.{starts_above}
-use Rattle.tv_gluing.proofs.laws.assignments_start_above.Goals as goal
-
-pub returns : goal.returns
-returns c = starts_above

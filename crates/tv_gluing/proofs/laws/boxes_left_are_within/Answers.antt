@@ -1,5 +1,0 @@
-use Rattle.tv_gluing.proofs.Bounds.{boxes_within}
-use Rattle.tv_gluing.proofs.laws.boxes_left_are_within.Goals as goal
-
-pub returns : goal.returns
-returns c = boxes_within

@@ -1,5 +1,0 @@
-use Rattle.tv_gluing.proofs.Bounds.{none_below_start}
-use Rattle.tv_gluing.proofs.laws.coefficient_starts.Goals as goal
-
-pub returns : goal.returns
-returns c = none_below_start

@@ -1,5 +1,0 @@
-use Rattle.tv_gluing.proofs.Fillings.{configurations_counted}
-use Rattle.tv_gluing.proofs.laws.configurations_are_counted.Goals as goal
-
-pub returns : goal.returns
-returns c = configurations_counted

@@ -1,0 +1,5 @@
+use Rattle.tv_laws_counts.proofs.Crowds.{crowd_of_class}
+use Rattle.tv_laws_counts.proofs.laws.crowd_bounds_class.Goals as goal
+
+pub returns : goal.returns
+returns c = crowd_of_class

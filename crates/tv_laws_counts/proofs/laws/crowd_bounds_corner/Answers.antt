@@ -1,0 +1,5 @@
+use Rattle.tv_laws_counts.proofs.Crowds.{crowd_of_corner}
+use Rattle.tv_laws_counts.proofs.laws.crowd_bounds_corner.Goals as goal
+
+pub returns : goal.returns
+returns c = crowd_of_corner

@@ -1,0 +1,12 @@
+pub mod Totals
+pub mod Glued
+pub mod Full
+pub mod Wide
+pub mod Products
+pub mod Rows
+pub mod Spread
+pub mod ZeroCrowd
+pub mod Lowest
+pub mod ZeroClass
+pub mod Only
+pub mod ReducedFamilies

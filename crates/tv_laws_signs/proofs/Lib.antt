@@ -1,0 +1,4 @@
+pub mod EvenSums
+pub mod Signs
+pub mod PartialSigns
+pub mod Whole

@@ -1,0 +1,9 @@
+//! Each function does nothing, and its contract is a law.
+
+ghost use Rattle.tv_laws_tiled_edges.specs.Laws.{TilingHasEdgeRule};
+
+/// Where unimodular triangles over distinct points tile, not all on a line and with coordinates of at most 100 in absolute
+/// value, the two triangles of each compact edge lie on its two sides.
+pub fn tiling_has_edge_rule()
+    ensures { TilingHasEdgeRule }
+{}

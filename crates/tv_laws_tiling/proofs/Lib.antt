@@ -1,0 +1,18 @@
+pub mod Turns
+pub mod Cancels
+pub mod Crossings
+pub mod Lists
+pub mod Heights
+pub mod Runs
+pub mod Sides
+pub mod Insides
+pub mod Matched
+pub mod Exchanges
+mod Examples
+mod Counterexamples
+pub mod Members
+pub mod Rotations
+pub mod Squares
+pub mod SquareSides
+pub mod Diagonals
+mod SquareEdges

@@ -1,0 +1,9 @@
+pub mod Points
+pub mod Laws
+pub mod Members
+pub mod Hull
+pub mod Edges
+pub mod Squares
+pub use Rattle.tv_spec_plane.specs.Plane
+pub use Rattle.tv_spec_plane.specs.Tiling
+pub use Rattle.tv_spec_plane.specs.Web

@@ -1,5 +1,0 @@
-use Rattle.tv_partial.proofs.Whole.{whole_is_partial}
-use Rattle.tv_partial.proofs.laws.whole_count_is_partial.Goals as goal
-
-pub returns : goal.returns
-returns c = whole_is_partial

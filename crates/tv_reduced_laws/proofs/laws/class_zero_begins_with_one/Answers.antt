@@ -1,5 +1,0 @@
-use Rattle.tv_reduced_laws.proofs.ZeroClass.{begins_with_one}
-use Rattle.tv_reduced_laws.proofs.laws.class_zero_begins_with_one.Goals as goal
-
-pub returns : goal.returns
-returns c = begins_with_one

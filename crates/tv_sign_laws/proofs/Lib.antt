@@ -1,3 +1,0 @@
-pub mod EvenSums
-pub mod Members
-pub mod Signs

@@ -1,5 +1,0 @@
-use Rattle.tv_sign_laws.proofs.Signs.{one_sign}
-use Rattle.tv_sign_laws.proofs.laws.configurations_have_one_sign.Goals as goal
-
-pub returns : goal.returns
-returns c = one_sign

@@ -1,5 +1,0 @@
-use Rattle.tv_sign_laws.proofs.Signs.{counted_sign}
-use Rattle.tv_sign_laws.proofs.laws.signed_count_is_signed_number.Goals as goal
-
-pub returns : goal.returns
-returns c = counted_sign

@@ -1,6 +1,0 @@
-use Rattle.tv_terms.proofs.PolyRing.{poly_laws}
-use Rattle.tv_terms.proofs.PolySizeLaws.{poly_size_laws}
-use Rattle.tv_terms.proofs.laws.polynomials_are_a_ring.Goals as goal
-
-pub returns : goal.returns
-returns g c = record { laws = poly_laws g.met.C.Ring.laws; sizes = poly_size_laws g.met.C.Ring.laws g.met.C.Ring.sizes }

@@ -1,5 +1,0 @@
-use Rattle.tv_terms.proofs.SeriesRing.{series_laws}
-use Rattle.tv_terms.proofs.laws.sums_and_products_of_series.Goals as goal
-
-pub returns : goal.returns
-returns g c = record { laws = series_laws g.met.C.Ring.laws }

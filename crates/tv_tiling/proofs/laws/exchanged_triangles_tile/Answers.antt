@@ -1,5 +1,0 @@
-use Rattle.tv_tiling.proofs.Exchanges.{exchanged_triangles_tile}
-use Rattle.tv_tiling.proofs.laws.exchanged_triangles_tile.Goals as goal
-
-pub returns : goal.returns
-returns c = exchanged_triangles_tile

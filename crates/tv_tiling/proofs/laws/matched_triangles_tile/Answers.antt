@@ -1,5 +1,0 @@
-use Rattle.tv_tiling.proofs.Matched.{matched_triangles_tile}
-use Rattle.tv_tiling.proofs.laws.matched_triangles_tile.Goals as goal
-
-pub returns : goal.returns
-returns c = matched_triangles_tile

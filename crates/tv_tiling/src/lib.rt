@@ -1,5 +1,0 @@
-//! Triangles whose directed edges match tile the convex hull, as a law. The converse is `tv_tiling_converse`. There is no
-//! program code here.
-#![tactic(auto)]
-
-pub mod laws;

@@ -1,5 +1,0 @@
-//! Triangles that tile the convex hull have matching edges, as a law: the converse of the law of `tv_tiling`. There is no
-//! program code here.
-#![tactic(auto)]
-
-pub mod laws;
