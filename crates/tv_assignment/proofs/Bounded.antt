@@ -55,7 +55,7 @@ twist-small a n h = rw (unsigned_abs-mul a (pos n)) (let most = mul-le (unsigned
 -- the cells of a cube are not too many
 length-numbers : (k n : ℕ) → length (range_with_len k n) ≡ n
 length-numbers k zero = refl
-length-numbers k (suc n) = ap suc (length-numbers (suc k) n)
+length-numbers k (suc n) = ap suc (length-numbers (k + 1) n)
 
 length-column : (t : ℤ) (d h : ℕ) → length (column t d h) ≡ h
 length-column t d h = length-map (below h) (λ z. cell (d + x_from t) (d + y_from t) z) ∙ length-numbers 0 h

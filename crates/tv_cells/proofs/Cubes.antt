@@ -31,7 +31,7 @@ record FromPlace (t : ℤ) (k : ℕ) (c : Cell) : Type 0 where
   on : On t c
   place : k + x_from t ≤ c.x
 
-places_precede : (t : ℤ) (k : ℕ) (c d : Cell) → AtPlace t k c → FromPlace t (suc k) d → precedes c d ≡ true
+places_precede : (t : ℤ) (k : ℕ) (c d : Cell) → AtPlace t k c → FromPlace t (k + 1) d → precedes c d ≡ true
 places_precede t k c d p q = grind (arith, nat_tests)
 
 heights_precede : (x y j k : ℕ) → j < k → precedes (cell x y j) (cell x y k) ≡ true
@@ -39,16 +39,16 @@ heights_precede x y j k l = grind (arith, nat_tests)
 
 column-before : (x y j k n : ℕ) → j < k → Before (cell x y j) (map (λ z. cell x y z) (range_with_len k n))
 column-before x y j k zero l = tt
-column-before x y j k (suc n) l = (heights_precede x y j k l, column-before x y j (suc k) n (omega arith))
+column-before x y j k (suc n) l = (heights_precede x y j k l, column-before x y j (k + 1) n (omega arith))
 
 column-rises : (x y k n : ℕ) → rises (map (λ z. cell x y z) (range_with_len k n)) ≡ true
 column-rises x y k zero = refl
 column-rises x y k (suc n) =
-    rises-cons (cell x y k) (map (λ z. cell x y z) (range_with_len (suc k) n)) (column-before x y k (suc k) n (omega arith)) (column-rises x y (suc k) n)
+    rises-cons (cell x y k) (map (λ z. cell x y z) (range_with_len (k + 1) n)) (column-before x y k (k + 1) n (omega arith)) (column-rises x y (k + 1) n)
 
 column-place : (t : ℤ) (d k n : ℕ) → AllByRecursion (AtPlace t d) (map (λ z. cell (d + x_from t) (d + y_from t) z) (range_with_len k n))
 column-place t d k zero = tt
-column-place t d k (suc n) = (record { on = omega arith; place = refl }, column-place t d (suc k) n)
+column-place t d k (suc n) = (record { on = omega arith; place = refl }, column-place t d (k + 1) n)
 
 abbrev columns : ℤ → ℕ → ℕ → ℕ → List Cell
 columns t h k n = flat_map (λ d. column t d h) (range_with_len k n)
@@ -56,16 +56,16 @@ columns t h k n = flat_map (λ d. column t d h) (range_with_len k n)
 columns-place : (t : ℤ) (h j k n : ℕ) → j ≤ k → AllByRecursion (FromPlace t j) (columns t h k n)
 columns-place t h j k zero l = tt
 columns-place t h j k (suc n) l =
-    all-append (FromPlace t j) (column t k h) (columns t h (suc k) n)
+    all-append (FromPlace t j) (column t k h) (columns t h (k + 1) n)
     (all-onto (AtPlace t k) (FromPlace t j) (λ c p. record { on = p.on; place = omega arith }) (column t k h) (column-place t k 0 h))
-    (columns-place t h j (suc k) n (omega arith))
+    (columns-place t h j (k + 1) n (omega arith))
 
 columns-rises : (t : ℤ) (h k n : ℕ) → rises (columns t h k n) ≡ true
 columns-rises t h k zero = refl
 columns-rises t h k (suc n) =
-    rises-append (column t k h) (columns t h (suc k) n) (column-rises (k + x_from t) (k + y_from t) 0 h) (columns-rises t h (suc k) n)
-    (all_before (AtPlace t k) (FromPlace t (suc k)) (places_precede t k) (column t k h) (columns t h (suc k) n)
-    (column-place t k 0 h) (columns-place t h (suc k) (suc k) n (omega arith)))
+    rises-append (column t k h) (columns t h (k + 1) n) (column-rises (k + x_from t) (k + y_from t) 0 h) (columns-rises t h (k + 1) n)
+    (all_before (AtPlace t k) (FromPlace t (k + 1)) (places_precede t k) (column t k h) (columns t h (k + 1) n)
+    (column-place t k 0 h) (columns-place t h (k + 1) (k + 1) n (omega arith)))
 
 -- t is less than s
 abbrev Lower : ℤ → ℤ → Type 0
@@ -143,12 +143,12 @@ column-within : (t : ℤ) (n d k h : ℕ) → d + nat_abs t < n → k + h ≤ n 
 column-within t n d k zero l m = tt
 column-within t n d k (suc h) l m =
     let start = starts_within t in
-    (record { x_below = omega arith; y_below = omega arith; z_below = omega arith }, column-within t n d (suc k) h l (omega arith))
+    (record { x_below = omega arith; y_below = omega arith; z_below = omega arith }, column-within t n d (k + 1) h l (omega arith))
 
 columns-within : (t : ℤ) (n k m : ℕ) → k + m ≤ n - nat_abs t → AllByRecursion (Within n) (columns t n k m)
 columns-within t n k zero l = tt
 columns-within t n k (suc m) l =
-    all-append (Within n) (column t k n) (columns t n (suc k) m) (column-within t n k 0 n (omega arith) (omega arith)) (columns-within t n (suc k) m (omega arith))
+    all-append (Within n) (column t k n) (columns t n (k + 1) m) (column-within t n k 0 n (omega arith) (omega arith)) (columns-within t n (k + 1) m (omega arith))
 
 diagonals-within : (n m : ℕ) (s : ℤ) → AllByRecursion (Within n) (diagonals n n m s)
 diagonals-within n zero s = tt
@@ -158,8 +158,8 @@ diagonals-within n (suc m) s =
 any-numbers : (p : ℕ → Bool) (k n j : ℕ) → k ≤ j → j < k + n → p j ≡ true → list_any p (range_with_len k n) ≡ true
 any-numbers p k zero j l m e = absurd (omega arith)
 any-numbers p k (suc n) j l m e = elim (cases_eq k j) [
-  | inl here ↦ or_left (p k) (list_any p (range_with_len (suc k) n)) (ap p here ∙ e)
-  | inr later ↦ or_right (p k) (list_any p (range_with_len (suc k) n)) (any-numbers p (suc k) n j (omega arith) (omega arith) e)
+  | inl here ↦ or_left (p k) (list_any p (range_with_len (k + 1) n)) (ap p here ∙ e)
+  | inr later ↦ or_right (p k) (list_any p (range_with_len (k + 1) n)) (any-numbers p (k + 1) n j (omega arith) (omega arith) e)
 ]
 
 diagonal_has : (t : ℤ) (d m h : ℕ) (c : Cell) → c.x ≡ d + x_from t → c.y ≡ d + y_from t → d < m → c.z < h → list_any (same c) (diagonal t m h) ≡ true

@@ -11,13 +11,12 @@ use Rattle.tv_cells.specs.Grid.{columns, diagonal_of, diagonals}
 pub numbers-next : (k n : ℕ) → k < n → range_with_len k (n - k) ≡ k ∷ range_with_len (k + 1) (n - (k + 1))
 numbers-next k n l =
     let more : n - k ≡ suc (n - (k + 1)) = omega arith in
-    let up : suc k ≡ k + 1 = omega arith in
-    rw more (ap (λ j. k ∷ range_with_len j (n - (k + 1))) up)
+    rw more refl
 
 pub numbers-none : (n : ℕ) → range_with_len n (n - n) ≡ []
 numbers-none n = let none : n - n ≡ 0 = omega arith in rw none refl
 
-less_one : (n k : ℕ) → (pos n -ℤ pos k) -ℤ pos 1 ≡ pos n -ℤ pos (suc k)
+less_one : (n k : ℕ) → (pos n -ℤ pos k) -ℤ pos 1 ≡ pos n -ℤ pos (k + 1)
 less_one n k = omega (arith, ints)
 
 less_none : (n : ℕ) → pos n -ℤ pos 0 ≡ pos n
@@ -43,9 +42,9 @@ falling_diagonals n m t = flat_map (λ t. diagonal t (suc n - nat_abs t) (suc n)
 diagonals_fall : (n m k : ℕ) → diagonals (suc n) k m ≡ falling_diagonals n m (pos n -ℤ pos k)
 diagonals_fall n zero k = refl
 diagonals_fall n (suc m) k =
-    ap (λ ds. ds ++ diagonals (suc n) (suc k) m) (diagonal_at n k)
+    ap (λ ds. ds ++ diagonals (suc n) (k + 1) m) (diagonal_at n k)
     ∙ ap (λ ds. diagonal (pos n -ℤ pos k) (suc n - nat_abs (pos n -ℤ pos k)) (suc n) ++ ds)
-    (diagonals_fall n m (suc k) ∙ ap (falling_diagonals n m) (sym (less_one n k)))
+    (diagonals_fall n m (k + 1) ∙ ap (falling_diagonals n m) (sym (less_one n k)))
 
 pub cube-diagonals : (side : ℕ) → 0 < side → diagonals side 0 (2 * side - 1) ≡ cube side
 unfolding cube

@@ -30,7 +30,7 @@ bit-one k a l = grind (arith, nat_tests)
 bit-none : (k a : ℕ) → a ≤ k → bit (nat_lt k a) ≡ 0
 bit-none k a l = grind (arith, nat_tests)
 
-column_step : (q : Bool) (a b k n : ℕ) → (((bit (nat_lt k a) + bit (nat_lt k b)) + bit q) - 1) + column_part q a b (suc k) n ≡ column_part q a b k (suc n)
+column_step : (q : Bool) (a b k n : ℕ) → (((bit (nat_lt k a) + bit (nat_lt k b)) + bit q) - 1) + column_part q a b (k + 1) n ≡ column_part q a b k (suc n)
 unfolding column_part
 column_step true a b k n = elim (cases_lt k a) [
   | inl la ↦ elim (cases_lt k b) [
@@ -67,7 +67,7 @@ heights-overlaps : (legs : Legs) (x y k n : ℕ) → overlaps legs (heights x y 
 unfolding overlaps
 heights-overlaps legs x y k zero = sym (column_none (has legs.along_z x y) (slice_index legs.along_x y) (slice_index legs.along_y x) k)
 heights-overlaps legs x y k (suc n) =
-    ap (λ rest. (legs_at legs (cell x y k) - 1) + rest) (heights-overlaps legs x y (suc k) n)
+    ap (λ rest. (legs_at legs (cell x y k) - 1) + rest) (heights-overlaps legs x y (k + 1) n)
     ∙ column_step (has legs.along_z x y) (slice_index legs.along_x y) (slice_index legs.along_y x) k n
 
 row-reach : (rows : List ℕ) (i : ℕ) → IsDiagram rows → slice_index rows i ≤ reach rows

@@ -86,7 +86,7 @@ entry-small m n false false false h k = lit≤ tt
 
 entries-small : (f : ℕ → ℤ) → ((k : ℕ) → IsNormalDegree (f k)) → (k n : ℕ) → AllByRecursion IsNormalDegree (map f (range_with_len k n))
 entries-small f each k zero = tt
-entries-small f each k (suc n) = (each k, entries-small f each (suc k) n)
+entries-small f each k (suc n) = (each k, entries-small f each (k + 1) n)
 
 pub class_entries-small : (w : Web) (e : CompactEdge) → AllByRecursion HasCoordinates w.points → HasRule w e → AllByRecursion IsNormalDegree (edge_class w e)
 class_entries-small w e small rule =

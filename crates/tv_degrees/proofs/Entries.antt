@@ -33,7 +33,7 @@ entries_first e m n count done none = record {
 pub entries_next : (e : CompactEdge) (m n : ℤ) (k count : ℕ) (done more : List ℤ) → k < count → IsEntry (entry_by e m n k) → more ≡ done ++ entry_by e m n k ∷ [] → AreEntries e m n k count done → AreEntries e m n (k + 1) count more
 unfolding entries_from
 entries_next e m n k count done more h limit pushed so_far = record {
-  whole = rw (add-one, pushed) (append_assoc done (entry_by e m n k ∷ []) (map (entry_by e m n) (range_with_len (suc k) (count - suc k))) ∙ (sym (ap (λ is. done ++ map (entry_by e m n) is) (range_with_len-step k count h)) ∙ so_far.whole));
+  whole = rw (add-one, pushed) (append_assoc done (entry_by e m n k ∷ []) (map (entry_by e m n) (range_with_len (k + 1) (count - suc k))) ∙ (sym (ap (λ is. done ++ map (entry_by e m n) is) (range_with_len-step k count h)) ∙ so_far.whole));
   number = ap length pushed ∙ (length-append done (entry_by e m n k ∷ []) ∙ omega (arith, so_far.number));
   small = subst (AllByRecursion IsEntry) (sym pushed) (each_push IsEntry done (entry_by e m n k) so_far.small limit);
 }
@@ -49,7 +49,7 @@ entries_limits e m n k count done few so_far = record { few = omega (arith, so_f
 numbers-get : (f : ℕ → ℤ) (k n i : ℕ) → i < n → get_or (map f (range_with_len k n)) i (pos 0) ≡ f (k + i)
 numbers-get f k zero i h = absurd (omega arith)
 numbers-get f k (suc n) zero h = ap f (let e : k ≡ k + 0 = omega arith in e)
-numbers-get f k (suc n) (suc i) h = numbers-get f (suc k) n i (omega arith) ∙ ap f (let e : suc k + i ≡ k + suc i = omega arith in e)
+numbers-get f k (suc n) (suc i) h = numbers-get f (k + 1) n i (omega arith) ∙ ap f (let e : (k + 1) + i ≡ k + suc i = omega arith in e)
 
 pub entries-get : (f : ℕ → ℤ) (n i : ℕ) → i < n → get_or (map f (below n)) i (pos 0) ≡ f i
 entries-get f n i h = numbers-get f 0 n i h ∙ ap f (let e : 0 + i ≡ i = omega arith in e)

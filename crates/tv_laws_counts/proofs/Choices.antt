@@ -84,9 +84,9 @@ choices-cut g gs d = flat_map-filter (λ n. nat_le (n * g) d) (starting g gs d) 
 
 below-more : {B : Type 0} (f : ℕ → List B) (k m n : ℕ) → m ≤ n → ((j : ℕ) → k + m ≤ j → f j ≡ []) → flat_map f (range_with_len k n) ≡ flat_map f (range_with_len k m)
 below-more f k zero zero h none = refl
-below-more f k zero (suc n) h none = ap (λ ys. ys ++ flat_map f (range_with_len (suc k) n)) (none k (omega arith)) ∙ below-more f (suc k) zero n (omega arith) (λ j p. none j (omega arith))
+below-more f k zero (suc n) h none = ap (λ ys. ys ++ flat_map f (range_with_len (k + 1) n)) (none k (omega arith)) ∙ below-more f (k + 1) zero n (omega arith) (λ j p. none j (omega arith))
 below-more f k (suc m) zero h none = absurd (omega arith)
-below-more f k (suc m) (suc n) h none = ap (λ ys. f k ++ ys) (below-more f (suc k) m n (omega arith) (λ j p. none j (omega arith)))
+below-more f k (suc m) (suc n) h none = ap (λ ys. f k ++ ys) (below-more f (k + 1) m n (omega arith) (λ j p. none j (omega arith)))
 
 cut-past : (g : ℕ) (gs : List ℕ) (d n : ℕ) → 0 < g → d < n → cut g gs d n ≡ []
 unfolding cut

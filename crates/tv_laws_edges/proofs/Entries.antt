@@ -23,11 +23,11 @@ degree_from f ps k g = degree_of (map f ps) (map g (range_with_len k (length ps)
 degree_from-same : (f : Point → ℤ) (ps : List Point) (k : ℕ) (g h : ℕ → ℤ) → ((i : ℕ) → g i ≡ h i) → degree_from f ps k g ≡ degree_from f ps k h
 degree_from-same f [] k g h same = refl
 degree_from-same f (p ∷ ps) k g h same =
-    ap (λ x. (f p *ℤ x) +ℤ degree_from f ps (suc k) g) (same k) ∙ ap (λ s. (f p *ℤ h k) +ℤ s) (degree_from-same f ps (suc k) g h same)
+    ap (λ x. (f p *ℤ x) +ℤ degree_from f ps (k + 1) g) (same k) ∙ ap (λ s. (f p *ℤ h k) +ℤ s) (degree_from-same f ps (k + 1) g h same)
 
 degree_from-add : (f : Point → ℤ) (ps : List Point) (k : ℕ) (g h : ℕ → ℤ) → degree_from f ps k (λ i. g i +ℤ h i) ≡ degree_from f ps k g +ℤ degree_from f ps k h
 degree_from-add f [] k g h = refl
-degree_from-add f (p ∷ ps) k g h = omega (arith, ints, mul-add (f p) (g k) (h k), degree_from-add f ps (suc k) g h)
+degree_from-add f (p ∷ ps) k g h = omega (arith, ints, mul-add (f p) (g k) (h k), degree_from-add f ps (k + 1) g h)
 
 single-before : (x : ℤ) (i k : ℕ) → i < k → single x i k ≡ pos 0
 single-before x i k h = grind (arith, nat_tests)
@@ -43,12 +43,12 @@ times-zero y x e = rw e (omega (arith, ints))
 
 degree_from-before : (f : Point → ℤ) (ps : List Point) (x : ℤ) (i k : ℕ) → i < k → degree_from f ps k (single x i) ≡ pos 0
 degree_from-before f [] x i k h = refl
-degree_from-before f (p ∷ ps) x i k h = omega (arith, ints, times-zero (f p) (single x i k) (single-before x i k h), degree_from-before f ps x i (suc k) (omega arith))
+degree_from-before f (p ∷ ps) x i k h = omega (arith, ints, times-zero (f p) (single x i k) (single-before x i k h), degree_from-before f ps x i (k + 1) (omega arith))
 
 degree_from-single : (f : Point → ℤ) (ps : List Point) (x : ℤ) (i k j : ℕ) → i ≡ k + j → j < length ps → degree_from f ps k (single x i) ≡ f (at ps j) *ℤ x
 degree_from-single f [] x i k j e h = absurd (omega arith)
-degree_from-single f (p ∷ ps) x i k zero e h = omega (arith, ints, ap (λ y. f p *ℤ y) (single-here x i k e), degree_from-before f ps x i (suc k) (omega arith))
-degree_from-single f (p ∷ ps) x i k (suc j) e h = omega (arith, ints, times-zero (f p) (single x i k) (single-after x i k j e), degree_from-single f ps x i (suc k) j (omega arith) (omega arith))
+degree_from-single f (p ∷ ps) x i k zero e h = omega (arith, ints, ap (λ y. f p *ℤ y) (single-here x i k e), degree_from-before f ps x i (k + 1) (omega arith))
+degree_from-single f (p ∷ ps) x i k (suc j) e h = omega (arith, ints, times-zero (f p) (single x i k) (single-after x i k j e), degree_from-single f ps x i (k + 1) j (omega arith) (omega arith))
 
 pub record Apart (a b c d : ℕ) : Type 0 where
   pub ab : a ≢ b

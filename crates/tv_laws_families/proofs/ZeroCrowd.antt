@@ -28,7 +28,7 @@ lowest-zero w =
 sum_of-more : (f : ℕ → ℕ) (k m d : ℕ) → sum_of f (range_with_len k m) ≤ sum_of f (range_with_len k (m + d))
 unfolding sum_of
 sum_of-more f k zero d = omega arith
-sum_of-more f k (suc m) d = let e : suc m + d ≡ suc (m + d) = omega arith in let rest = sum_of-more f (suc k) m d in rw e (omega arith)
+sum_of-more f k (suc m) d = let e : suc m + d ≡ suc (m + d) = omega arith in let rest = sum_of-more f (k + 1) m d in rw e (omega arith)
 
 crowd_on-≤ : (legs : List Legs) (m n : ℕ) → m ≤ n → crowd_on legs m ≤ crowd_on legs n
 crowd_on-≤ legs m n h =

@@ -23,7 +23,7 @@ AreBelow n ks = AllByRecursion (λ k. nat_lt k n ≡ true) ks
 
 numbers_below : (k m n : ℕ) → k + m ≤ n → AreBelow n (range_with_len k m)
 numbers_below k zero n h = tt
-numbers_below k (suc m) n h = (less k n (omega arith), numbers_below (suc k) m n (omega arith))
+numbers_below k (suc m) n h = (less k n (omega arith), numbers_below (k + 1) m n (omega arith))
   where
     less : (k n : ℕ) → k < n → nat_lt k n ≡ true
     less k n h = grind (arith, nat_tests)

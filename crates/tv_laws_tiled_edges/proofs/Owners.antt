@@ -10,7 +10,7 @@ AreApart p = p.0 ≢ p.1
 
 row_apart : (a k n : ℕ) → a < k → AllByRecursion AreApart (map (λ b. (a, b)) (range_with_len k n))
 row_apart a k zero l = tt
-row_apart a k (suc n) l = ((λ e. omega arith), row_apart a (suc k) n (omega arith))
+row_apart a k (suc n) l = ((λ e. omega arith), row_apart a (k + 1) n (omega arith))
 
 pairs_apart : (n : ℕ) → AllByRecursion AreApart (pairs n)
 pairs_apart n =
@@ -20,19 +20,19 @@ pairs_apart n =
 -- ---- numbers that pass a test rise
 abbrev pub Rising : (ℕ → Bool) → ℕ → ℕ → List ℕ → Type 0
 Rising test low top [] = ⊤
-Rising test low top (k ∷ ks) = (low ≤ k) × (k < top) × (test k ≡ true) × Rising test (suc k) top ks
+Rising test low top (k ∷ ks) = (low ≤ k) × (k < top) × (test k ≡ true) × Rising test (k + 1) top ks
 
 rising-lower : (test : ℕ → Bool) (low top : ℕ) (ks : List ℕ) → Rising test (suc low) top ks → Rising test low top ks
 rising-lower test low top [] h = tt
 rising-lower test low top (k ∷ ks) h = (omega (arith, h.0), h.1, h.2, h.3)
 
-rising_step : (test : ℕ → Bool) (k top : ℕ) (ks : List ℕ) (b : Bool) → test k ≡ b → k < top → Rising test (suc k) top ks → Rising test k top (cond b (k ∷ ks) ks)
+rising_step : (test : ℕ → Bool) (k top : ℕ) (ks : List ℕ) (b : Bool) → test k ≡ b → k < top → Rising test (k + 1) top ks → Rising test k top (cond b (k ∷ ks) ks)
 rising_step test k top ks true e l h = (omega arith, l, e, h)
 rising_step test k top ks false e l h = rising-lower test k top ks h
 
 pub rising_filter : (test : ℕ → Bool) (k n top : ℕ) → k + n ≤ top → Rising test k top (filter test (range_with_len k n))
 rising_filter test k zero top l = tt
-rising_filter test k (suc n) top l = rising_step test k top (filter test (range_with_len (suc k) n)) (test k) refl (omega arith) (rising_filter test (suc k) n top (omega arith))
+rising_filter test k (suc n) top l = rising_step test k top (filter test (range_with_len (k + 1) n)) (test k) refl (omega arith) (rising_filter test (k + 1) n top (omega arith))
 
 -- ---- through what gives a value or none
 abbrev pub Gives : {A : Type 0} → (A → Type 0) → Option A → Type 0

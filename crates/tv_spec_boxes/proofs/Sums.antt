@@ -18,7 +18,7 @@ flat_map-none (x ∷ xs) = flat_map-none xs
 -- where all but the last number give nothing
 pub flat_map-last : {B : Type 0} (F : ℕ → List B) (k n : ℕ) → ((j : ℕ) → j < k + n → F j ≡ []) → flat_map F (range_with_len k (suc n)) ≡ F (k + n)
 flat_map-last F k zero none = append-nil (F k) ∙ ap F (sym (add-zero k))
-flat_map-last F k (suc n) none = ap (λ ys. ys ++ flat_map F (range_with_len (suc k) (suc n))) (none k (omega arith)) ∙ flat_map-last F (suc k) n (λ j h. none j (omega arith)) ∙ ap F (omega arith)
+flat_map-last F k (suc n) none = ap (λ ys. ys ++ flat_map F (range_with_len (k + 1) (suc n))) (none k (omega arith)) ∙ flat_map-last F (k + 1) n (λ j h. none j (omega arith)) ∙ ap F (omega arith)
 
 -- the sublists of n members have n members
 pub sublists_of-length : (n : ℕ) (cells : List Cell) → AllByRecursion (λ s. length s ≡ n) (sublists_of n cells)
@@ -62,6 +62,6 @@ pub sum_of-term : (f : ℕ → ℕ) (k n i : ℕ) → k ≤ i → i < k + n → 
 unfolding sum_of
 sum_of-term f k zero i p q = absurd (omega arith)
 sum_of-term f k (suc n) i p q = elim (cases_eq k i) [
-  | inl e ↦ let here : f k ≡ f i = ap f e in rw (← here) (le-left (f k) (sum_of f (range_with_len (suc k) n)))
-  | inr ne ↦ let below_rest : f i ≤ sum_of f (range_with_len (suc k) n) = sum_of-term f (suc k) n i (omega (arith, ne)) (omega arith) in omega arith
+  | inl e ↦ let here : f k ≡ f i = ap f e in rw (← here) (le-left (f k) (sum_of f (range_with_len (k + 1) n)))
+  | inr ne ↦ let below_rest : f i ≤ sum_of f (range_with_len (k + 1) n) = sum_of-term f (k + 1) n i (omega (arith, ne)) (omega arith) in omega arith
 ]

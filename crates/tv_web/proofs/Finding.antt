@@ -21,9 +21,9 @@ and_all-nothing (t ∷ u ∷ v ∷ ts) = and_all-more ts
 
 pub length-range_with_len : (k n : ℕ) → length (range_with_len k n) ≡ n
 length-range_with_len k zero = refl
-length-range_with_len k (suc n) = ap suc (length-range_with_len (suc k) n)
+length-range_with_len k (suc n) = ap suc (length-range_with_len (k + 1) n)
 
-pub range_with_len-step : (k n : ℕ) → k < n → range_with_len k (n - k) ≡ k ∷ range_with_len (suc k) (n - suc k)
+pub range_with_len-step : (k n : ℕ) → k < n → range_with_len k (n - k) ≡ k ∷ range_with_len (k + 1) (n - suc k)
 range_with_len-step k n h =
     let e : n - k ≡ suc (n - suc k) = omega arith in
     ap (range_with_len k) e
