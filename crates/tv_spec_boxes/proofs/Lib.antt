@@ -1,4 +1,5 @@
 mod Values
+mod CountValues
 pub mod Sums
 pub mod Vectors
 pub mod OneCornerWeb
