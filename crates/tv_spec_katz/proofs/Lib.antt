@@ -1,3 +1,4 @@
+pub mod Samples
 mod Values
 mod IntegerValues
 mod MadeUp
