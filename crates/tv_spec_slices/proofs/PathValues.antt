@@ -24,6 +24,11 @@ chains : map (ways no_legs 2 (negsuc 1) 2 (shape 0 (2 ∷ []))) (1 ∷ 2 ∷ 3 �
 unfolding columns ways
 chains = refl
 
+-- from -4 to a column of three at -1, each of the two between has three as well where there are nine in all
+long_chain : ways no_legs 3 (negsuc 3) 3 (shape 0 (3 ∷ [])) 9 ≡ 1
+unfolding columns ways
+long_chain = refl
+
 -- up to the empty slice at diagonal 1 there is one way with no box, one with one and two with two; to a column of one, one with two
 ways_beyond : map (λ hs. map (ways_at no_legs 2 (pos 1) (shape 0 hs)) (0 ∷ 1 ∷ 2 ∷ [])) ([] ∷ (1 ∷ []) ∷ []) ≡ (1 ∷ 1 ∷ 2 ∷ []) ∷ (0 ∷ 0 ∷ 1 ∷ []) ∷ []
 unfolding columns ways
@@ -38,10 +43,17 @@ legs_alone : paths (record { along_x = 1 ∷ []; along_y = []; along_z = 2 ∷ [
 unfolding columns ways paths
 legs_alone = refl
 
--- beside two places of a leg along y, of which diagonal 1 has one
-next_above : next_of (record { along_x = []; along_y = 1 ∷ 1 ∷ []; along_z = [] }) (pos 0) (shape 0 (2 ∷ 1 ∷ [])) 1 ≡ shape 0 (1 ∷ []) ∷ shape 0 (2 ∷ []) ∷ shape 0 (1 ∷ 1 ∷ []) ∷ []
+-- beside two places of a leg along y, of which diagonal 1 has one and diagonal 2 none
+abbrev leg_y : Legs
+leg_y = record { along_x = []; along_y = 1 ∷ 1 ∷ []; along_z = [] }
+
+next_above : next_of leg_y (pos 0) (shape 0 (2 ∷ 1 ∷ [])) 1 ≡ shape 0 (1 ∷ []) ∷ shape 0 (2 ∷ []) ∷ shape 0 (1 ∷ 1 ∷ []) ∷ []
 unfolding columns
 next_above = refl
+
+next_beyond : next_of leg_y (pos 1) (shape 0 (1 ∷ [])) 1 ≡ shape 0 [] ∷ shape 0 (1 ∷ []) ∷ []
+unfolding columns
+next_beyond = refl
 
 -- with two boxes at most: below the middle one box takes another one above it
 lower_entries : entries no_legs 2 (negsuc 0) ≡ (shape 0 [], 0) ∷ (shape 0 (1 ∷ []), 1) ∷ []
