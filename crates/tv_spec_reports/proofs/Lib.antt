@@ -1,3 +1,4 @@
 pub mod Values
 mod BoxesValues
+mod GrammarValues
 mod IntegersReportValues

@@ -14,7 +14,8 @@ abbrev pub verdict_text : List ℕ
 verdict_text = text_of verdict_lines
 
 abbrev pub differs_line : ℤ → ℤ → ℤ → List ℤ → Line
-differs_line n series product v = codes "refused" ∷ codes "differs" ∷ spelled n ∷ spelled series ∷ spelled product ∷ codes "class" ∷ map spelled v
+differs_line n series product v =
+    codes "refused" ∷ codes "differs" ∷ spelled n ∷ spelled series ∷ spelled product ∷ codes "class" ∷ map spelled v
 
 abbrev pub majorant_line : ℤ → List ℤ → Line
 majorant_line n v = codes "refused" ∷ codes "wide" ∷ codes "majorant" ∷ spelled n ∷ codes "class" ∷ map spelled v
