@@ -4,6 +4,7 @@ use Rattle.std.proofs.Common.{◌≡◌, ℕ, zero, suc, ◌-◌, ◌*◌, refl,
 use Rattle.std.specs.Prelude.{ℤ, pos, negsuc, ◌+ℤ◌, ◌*ℤ◌, ◌<ℤ◌, List, [], ◌∷◌, ◌++◌, map, filter, length, slice_index_or, true}
 use Rattle.std.specs.List.{AllByRecursion}
 use Rattle.std.proofs.lemmas.Int.{ints}
+use Rattle.tv_lemmas.specs.Sums.{total}
 use Rattle.tv_spec_plane.specs.declared.records.CompactEdge.{CompactEdge}
 use Rattle.tv_spec_plane.specs.declared.records.EdgeRef.{EdgeRef}
 use Rattle.tv_spec_plane.specs.declared.records.EdgeRef.TheVariants.{Compact, Outer}
@@ -14,9 +15,9 @@ use Rattle.tv_cells.specs.declared.legs.Legs.{Legs}
 use Rattle.tv_cells.specs.Costs.{rows_cost}
 use Rattle.tv_cells.proofs.Overlaps.{no-overlap}
 use Rattle.tv_spec_boxes.specs.Assignments.{Assignment, no_legs, rows_at, legs_of, all_legs, zeros, plus, times, class_on, class_of, costs_on, twist_on, overlaps_of, weight, choices, assignments, same_vector, assignments_of}
-use Rattle.tv_spec_boxes.specs.Configurations.{total, boxes_left}
+use Rattle.tv_spec_boxes.specs.Configurations.{boxes_left}
 use Rattle.std.proofs.lemmas.List.FromFn.{length-map-range_with_len}
-use Rattle.tv_spec_boxes.proofs.Sums.{total-one}
+use Rattle.tv_lemmas.proofs.Sums.{total-one}
 use Rattle.tv_laws_counts.specs.Ways.{ways_at, assignment_sign, assignment_coefficient}
 use Rattle.tv_laws_counts.proofs.CornerWays.{ways-start}
 use Rattle.tv_laws_counts.proofs.SignedCounts.{signed_count_is}

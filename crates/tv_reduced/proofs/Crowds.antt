@@ -5,10 +5,11 @@ use Rattle.std.specs.Int.{int_max}
 use Rattle.std.proofs.lemmas.Int.{ints}
 use Rattle.std.proofs.lemmas.Nat.{mul-le}
 use Rattle.std.proofs.lemmas.Bool.{and_parts}
+use Rattle.tv_lemmas.specs.Sums.{sum_of}
 use Rattle.tv_ring.specs.Operations.{Operations, limit}
 use Rattle.tv_spec_plane.specs.Web.{Web, compact, degree_of}
 use Rattle.tv_spec_boxes.specs.Assignments.{no_legs, all_legs, zeros, class_of, weight, assignments, same_vector, assignments_of}
-use Rattle.tv_spec_boxes.specs.Numbers.{lowest, box_bound, crowd_on, sum_of, crowd}
+use Rattle.tv_spec_boxes.specs.Numbers.{lowest, box_bound, crowd_on, crowd}
 use Rattle.tv_spec_boxes.proofs.Vectors.{same_vector_tells}
 use Rattle.tv_laws_families.proofs.ZeroClass.{nothing, assignments-none, class_on-nothing}
 use Rattle.tv_laws_families.proofs.ZeroCrowd.{zero_crowd}
@@ -26,7 +27,7 @@ weight_none (pos n) h = let both = and_parts (int_le (pos 0) (pos n)) (int_le (p
 weight_none (negsuc n) h = refl
 
 other_crowd : (w : Web) (m : ℤ) (v : List ℤ) → same_vector (class_of w (nothing (compact w))) v ≡ false → crowd w (no_legs w) 0 m v ≡ 0
-unfolding crowd sum_of
+unfolding crowd
 other_crowd w m v off = step (int_le (pos 0) (degree_of w.heights v) && int_le (degree_of w.heights v) (pos 0)) refl
   where
     step : (b : Bool) → (int_le (pos 0) (degree_of w.heights v) && int_le (degree_of w.heights v) (pos 0)) ≡ b → cond b (sum_of (λ a. crowd_on (all_legs w a (no_legs w)) (box_bound m (lowest w (no_legs w) 0))) (assignments_of w v)) 0 ≡ 0

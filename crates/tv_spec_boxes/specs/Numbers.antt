@@ -6,12 +6,12 @@
 -- lowest w fixed d   == the least low over the assignments of degree at most d
 -- as_natural z       == z, or 0 where it is below 0
 -- box_bound n low    == max(0, n - 2 low)
--- sum_of f xs        == the sum of f over the list
 -- crowd_on legs n    == the number of fillings of these corners with at most n boxes
 -- crowd w fixed d n v == the number of configurations of class v with at most max(0, n - 2 lowest) boxes in all; 0
 --                       where the degree of v is below 0 or above d
 use Rattle.std.specs.Prelude.{ℕ, suc, ◌+◌, ℤ, pos, negsuc, ◌+ℤ◌, ◌-ℤ◌, List, [], ◌∷◌, length, cond, ◌&&◌, int_le}
 use Rattle.std.specs.Int.{int_min}
+use Rattle.tv_lemmas.specs.Sums.{sum_of}
 use Rattle.tv_spec_plane.specs.declared.records.CompactEdge.{CompactEdge}
 use Rattle.tv_spec_plane.specs.Web.{Web, compact, below, normal_a, normal_b, degree_of}
 use Rattle.tv_cells.specs.declared.legs.Legs.{Legs}
@@ -40,10 +40,6 @@ as_natural (negsuc n) = 0
 
 abbrev pub box_bound : ℤ → ℤ → ℕ
 box_bound n low = as_natural ((n -ℤ low) -ℤ low)
-
-unfoldable pub sum_of : {A : Type 0} → (A → ℕ) → List A → ℕ
-sum_of f [] = 0
-sum_of f (x ∷ xs) = f x + sum_of f xs
 
 -- the fillings of at most n boxes
 abbrev pub crowd_on : List Legs → ℕ → ℕ
