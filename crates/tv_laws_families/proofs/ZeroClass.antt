@@ -14,7 +14,7 @@ use Rattle.tv_partition.specs.Rows.{IsDiagram, diagrams, diagrams_within}
 use Rattle.tv_cells.specs.declared.legs.Legs.{Legs}
 use Rattle.tv_cells.specs.Costs.{rows_cost}
 use Rattle.tv_cells.proofs.Overlaps.{no-overlap}
-use Rattle.tv_spec_boxes.specs.Assignments.{Assignment, no_legs, rows_at, legs_of, all_legs, zeros, plus, times, class_on, class_of, costs_on, twist_on, overlaps_of, weight, choices, assignments, same_vector, assignments_of}
+use Rattle.tv_spec_boxes.specs.Assignments.{Assignment, no_legs, rows_at, legs_of, all_legs, zeros, plus, times, class_on, class_of, sum_on, cost_by, twist_by, overlaps_of, weight, choices, assignments, same_vector, assignments_of}
 use Rattle.tv_spec_boxes.specs.Configurations.{boxes_left}
 use Rattle.std.proofs.lemmas.List.FromFn.{length-map-range_with_len}
 use Rattle.tv_lemmas.proofs.Sums.{total-one}
@@ -74,12 +74,12 @@ assignments_of-zero w =
     let fits : same_vector (class_of w (nothing (compact w))) (zeros (length w.points)) ≡ true = ap (λ v. same_vector v (zeros (length w.points))) (class_on-nothing w (compact w)) ∙ same-zeros (length w.points) in
     ap (filter (λ a. same_vector (class_of w a) (zeros (length w.points)))) all ∙ rw fits refl
 
-costs-nothing : (w : Web) (es : List CompactEdge) → costs_on w es (nothing es) ≡ pos 0
+costs-nothing : (w : Web) (es : List CompactEdge) → sum_on (cost_by w) es (nothing es) ≡ pos 0
 unfolding rows_cost
 costs-nothing w [] = refl
 costs-nothing w (e ∷ es) = rw (costs-nothing w es) refl
 
-twist-nothing : (w : Web) (es : List CompactEdge) → twist_on w es (nothing es) ≡ pos 0
+twist-nothing : (w : Web) (es : List CompactEdge) → sum_on (twist_by w) es (nothing es) ≡ pos 0
 twist-nothing w [] = refl
 twist-nothing w (e ∷ es) = let z : normal_a w e *ℤ pos 0 ≡ pos 0 = times_zero (normal_a w e) in rw (z, twist-nothing w es) refl
   where

@@ -10,13 +10,13 @@ use Rattle.tv_spec_plane.specs.declared.records.CompactEdge.{CompactEdge}
 use Rattle.tv_spec_plane.specs.Web.{Web, compact, corners}
 use Rattle.tv_cells.specs.declared.legs.Legs.{Legs}
 use Rattle.tv_cells.specs.Costs.{rows_cost}
-use Rattle.tv_spec_boxes.specs.Assignments.{Assignment, no_legs, all_legs, zeros, assignments_of}
+use Rattle.tv_spec_boxes.specs.Assignments.{Assignment, sum_on, no_legs, all_legs, zeros, assignments_of}
 use Rattle.tv_spec_boxes.specs.Configurations.{fillings}
-use Rattle.tv_spec_boxes.specs.Numbers.{falls_on, low_of, least, lowest, as_natural, box_bound, crowd_on, crowd}
+use Rattle.tv_spec_boxes.specs.Numbers.{fall_by, low_of, least, lowest, as_natural, box_bound, crowd_on, crowd}
 use Rattle.tv_laws_counts.proofs.Bounds.{lowest-none}
 use Rattle.tv_laws_families.proofs.ZeroClass.{nothing, assignments-none, overlaps-nothing, degree-zeros}
 
-falls-nothing : (w : Web) (es : List CompactEdge) → falls_on w es (nothing es) ≡ pos 0
+falls-nothing : (w : Web) (es : List CompactEdge) → sum_on (fall_by w) es (nothing es) ≡ pos 0
 unfolding rows_cost
 falls-nothing w [] = refl
 falls-nothing w (e ∷ es) = rw (falls-nothing w es) refl

@@ -9,10 +9,12 @@
 -- all_legs w a fixed == the legs of each corner, in the order of corners
 -- zeros n            == n zeros
 -- plus, times        == sum of two vectors, and whole multiple of one
--- class_on w es a    == the sum over these edges of size times class
--- class_of w a       == the sum over the compact edges of size times class
--- costs_on, edge_costs w a == the sum over the edges, over the compact edges, of the edge cost of the diagram
--- twist_on, edge_twist w a == the sum over the edges, over the compact edges, of the normal degree at a times the size
+-- over_edges add none f es a == the sum of f over the edges with their diagrams, by that addition and its zero
+-- sum_on f es a      == so of whole numbers
+-- class_by w e d     == the class of an edge with its diagram: size times class
+-- class_on, class_of w a == the sum over these edges, over the compact edges, of their classes
+-- cost_by, edge_costs w a == the edge cost of the diagram on an edge, and the sum over the compact edges
+-- twist_by, edge_twist w a == the normal degree at a times the size, and the sum over the compact edges
 -- overlaps_of legs   == the sum of the overlap costs of the corners
 -- weight g           == a positive degree as a natural number; 0 where it is not positive
 -- choices gs d       == one diagram for each degree, sizes times degrees adding up to at most d; of two diagrams the one of
@@ -66,29 +68,35 @@ plus (x ∷ u) (y ∷ v) = (x +ℤ y) ∷ plus u v
 abbrev pub times : ℕ → List ℤ → List ℤ
 times n v = map (λ x. pos n *ℤ x) v
 
+-- one fold for sums of numbers and of vectors, each with its own addition and zero
+abbrev pub over_edges : {B : Type 0} → (B → B → B) → B → (CompactEdge → Rows → B) → List CompactEdge → Assignment → B
+over_edges add none f [] a = none
+over_edges add none f (e ∷ es) [] = none
+over_edges add none f (e ∷ es) (d ∷ a) = add (f e d) (over_edges add none f es a)
+
+abbrev pub sum_on : (CompactEdge → Rows → ℤ) → List CompactEdge → Assignment → ℤ
+sum_on f es a = over_edges ◌+ℤ◌ (pos 0) f es a
+
+abbrev pub class_by : Web → CompactEdge → Rows → List ℤ
+class_by w e d = times (size d) (edge_class w e)
+
 abbrev pub class_on : Web → List CompactEdge → Assignment → List ℤ
-class_on w [] a = zeros (length w.points)
-class_on w (e ∷ es) [] = zeros (length w.points)
-class_on w (e ∷ es) (d ∷ a) = plus (times (size d) (edge_class w e)) (class_on w es a)
+class_on w es a = over_edges plus (zeros (length w.points)) (class_by w) es a
 
 abbrev pub class_of : Web → Assignment → List ℤ
 class_of w a = class_on w (compact w) a
 
-abbrev pub costs_on : Web → List CompactEdge → Assignment → ℤ
-costs_on w [] a = pos 0
-costs_on w (e ∷ es) [] = pos 0
-costs_on w (e ∷ es) (d ∷ a) = edge_cost d (normal_a w e) (normal_b w e) +ℤ costs_on w es a
+abbrev pub cost_by : Web → CompactEdge → Rows → ℤ
+cost_by w e d = edge_cost d (normal_a w e) (normal_b w e)
 
 abbrev pub edge_costs : Web → Assignment → ℤ
-edge_costs w a = costs_on w (compact w) a
+edge_costs w a = sum_on (cost_by w) (compact w) a
 
-abbrev pub twist_on : Web → List CompactEdge → Assignment → ℤ
-twist_on w [] a = pos 0
-twist_on w (e ∷ es) [] = pos 0
-twist_on w (e ∷ es) (d ∷ a) = (normal_a w e *ℤ pos (size d)) +ℤ twist_on w es a
+abbrev pub twist_by : Web → CompactEdge → Rows → ℤ
+twist_by w e d = normal_a w e *ℤ pos (size d)
 
 abbrev pub edge_twist : Web → Assignment → ℤ
-edge_twist w a = twist_on w (compact w) a
+edge_twist w a = sum_on (twist_by w) (compact w) a
 
 abbrev pub overlaps_of : List Legs → ℕ
 overlaps_of [] = 0

@@ -1,6 +1,6 @@
 -- The numbers of configurations that bound every coefficient.
 --
--- falls_on w es a    == the sum of min(0, edge cost) over the edges
+-- fall_by w e d      == min(0, edge cost)
 -- low_of w fixed a   == the sum of min(0, edge cost) over the compact edges less the overlap costs
 -- least f xs         == the least of 0 and of f over the list
 -- lowest w fixed d   == the least low over the assignments of degree at most d
@@ -13,19 +13,16 @@ use Rattle.std.specs.Prelude.{ℕ, suc, ◌+◌, ℤ, pos, negsuc, ◌+ℤ◌, �
 use Rattle.std.specs.Int.{int_min}
 use Rattle.tv_lemmas.specs.Sums.{sum_of}
 use Rattle.tv_spec_plane.specs.declared.records.CompactEdge.{CompactEdge}
-use Rattle.tv_spec_plane.specs.Web.{Web, compact, below, normal_a, normal_b, degree_of}
+use Rattle.tv_spec_plane.specs.Web.{Web, compact, below, degree_of}
 use Rattle.tv_cells.specs.declared.legs.Legs.{Legs}
-use Rattle.tv_cells.specs.Costs.{edge_cost}
-use Rattle.tv_spec_boxes.specs.Assignments.{Rows, Assignment, all_legs, assignments, assignments_of, overlaps_of}
+use Rattle.tv_spec_boxes.specs.Assignments.{Rows, Assignment, sum_on, cost_by, all_legs, assignments, assignments_of, overlaps_of}
 use Rattle.tv_spec_boxes.specs.Configurations.{fillings}
 
-abbrev pub falls_on : Web → List CompactEdge → Assignment → ℤ
-falls_on w [] a = pos 0
-falls_on w (e ∷ es) [] = pos 0
-falls_on w (e ∷ es) (d ∷ a) = int_min (pos 0) (edge_cost d (normal_a w e) (normal_b w e)) +ℤ falls_on w es a
+abbrev pub fall_by : Web → CompactEdge → Rows → ℤ
+fall_by w e d = int_min (pos 0) (cost_by w e d)
 
 abbrev pub low_of : Web → List Rows → Assignment → ℤ
-low_of w fixed a = falls_on w (compact w) a -ℤ pos (overlaps_of (all_legs w a fixed))
+low_of w fixed a = sum_on (fall_by w) (compact w) a -ℤ pos (overlaps_of (all_legs w a fixed))
 
 unfoldable pub least : {A : Type 0} → (A → ℤ) → List A → ℤ
 least f [] = pos 0
