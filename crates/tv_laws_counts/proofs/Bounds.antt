@@ -4,12 +4,13 @@ use Rattle.std.specs.Int.{int_min}
 use Rattle.std.specs.List.{AllByRecursion}
 use Rattle.std.proofs.Common.{refl, ap, ◌∙◌, arith}
 use Rattle.std.proofs.lemmas.Int.{ints}
+use Rattle.tv_lemmas.specs.Naturals.{as_natural}
 use Rattle.tv_spec_plane.specs.declared.records.CompactEdge.{CompactEdge}
 use Rattle.tv_spec_plane.specs.Web.{Web, compact}
 use Rattle.tv_cells.specs.declared.legs.Legs.{Legs}
 use Rattle.tv_spec_boxes.specs.Assignments.{Rows, Assignment, all_legs, assignments, sum_on, cost_by, edge_costs, overlaps_of}
 use Rattle.tv_spec_boxes.specs.Configurations.{boxes_left}
-use Rattle.tv_spec_boxes.specs.Numbers.{fall_by, low_of, least, lowest, as_natural, box_bound}
+use Rattle.tv_spec_boxes.specs.Numbers.{fall_by, low_of, least, lowest, box_bound}
 use Rattle.tv_laws_counts.specs.Ways.{ways_at, start_of, assignment_sign, assignment_coefficient}
 use Rattle.tv_laws_counts.specs.Laws.{BoxesWithin, StartsAbove, NoneBelowStart}
 use Rattle.tv_lemmas.proofs.Members.{all-onto, all-contains}

@@ -2,10 +2,11 @@
 use Rattle.std.specs.Prelude.{◌≡◌, ℕ, ℤ, pos, ◌+ℤ◌, ◌*ℤ◌, List, [], ◌∷◌, map}
 use Rattle.std.specs.List.{AllByRecursion}
 use Rattle.std.proofs.Common.{ap, ◌∙◌}
+use Rattle.tv_lemmas.specs.Naturals.{as_natural}
 use Rattle.tv_spec_plane.specs.Web.{Web, compact, edge_degree, degree_of, sign}
 use Rattle.tv_partition.specs.Rows.{IsDiagram}
 use Rattle.tv_cells.specs.declared.cell.Cell.{Cell}
-use Rattle.tv_spec_boxes.specs.Assignments.{Rows, Assignment, all_legs, class_of, edge_twist, assignments, assignments_of, same_vector, weight}
+use Rattle.tv_spec_boxes.specs.Assignments.{Rows, Assignment, all_legs, class_of, edge_twist, assignments, assignments_of, same_vector}
 use Rattle.tv_spec_boxes.specs.Configurations.{configuration, configuration_sign, configurations_on, fillings_of, boxes_left, signed_count}
 use Rattle.tv_lemmas.specs.Sums.{total}
 use Rattle.tv_lemmas.proofs.Sums.{total-flat_map, total-same, total-alike}
@@ -31,13 +32,13 @@ on_assignment w fixed v n also a all of =
 pub assignments_have_diagrams : (w : Web) (d : ℕ) → AllByRecursion (λ a. AllByRecursion IsDiagram a) (assignments w d)
 unfolding assignments
 assignments_have_diagrams w d =
-    let gs : List ℕ = map (λ e. weight (edge_degree w e)) (compact w) in
+    let gs : List ℕ = map (λ e. as_natural (edge_degree w e)) (compact w) in
     all-onto (IsChoice gs d) (λ (a : Assignment). AllByRecursion IsDiagram a) (λ a is. is.diagrams) _ (choices_are gs d)
 
 pub assignments_of_have_diagrams : (w : Web) (v : List ℤ) → AllByRecursion (λ a. AllByRecursion IsDiagram a) (assignments_of w v)
 assignments_of_have_diagrams w v =
     all-filter (λ (a : Assignment). AllByRecursion IsDiagram a) (λ (a : Assignment). AllByRecursion IsDiagram a) (λ a. same_vector (class_of w a) v) (λ a is e. is)
-    (assignments w (weight (degree_of w.heights v))) (assignments_have_diagrams w (weight (degree_of w.heights v)))
+    (assignments w (as_natural (degree_of w.heights v))) (assignments_have_diagrams w (as_natural (degree_of w.heights v)))
 
 pub signed_count_is : SignedCountIs
 unfolding signed_count

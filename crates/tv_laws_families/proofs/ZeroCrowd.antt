@@ -3,6 +3,7 @@ use Rattle.std.proofs.Common.{◌≡◌, ℕ, zero, suc, ◌+◌, ◌-◌, ◌�
 use Rattle.std.specs.Prelude.{ℤ, pos, negsuc, ◌-ℤ◌, ◌≤ℤ◌, List, [], ◌∷◌, length, cond, ◌&&◌, int_le, true}
 use Rattle.std.specs.Int.{int_max}
 use Rattle.std.proofs.lemmas.Int.{ints, clamps}
+use Rattle.tv_lemmas.specs.Naturals.{as_natural}
 use Rattle.tv_lemmas.specs.Sums.{sum_of}
 use Rattle.tv_lemmas.proofs.Sums.{sum_of-≤, sum_of-more}
 use Rattle.tv_lemmas.proofs.Members.{all-any}
@@ -12,7 +13,7 @@ use Rattle.tv_cells.specs.declared.legs.Legs.{Legs}
 use Rattle.tv_cells.specs.Costs.{rows_cost}
 use Rattle.tv_spec_boxes.specs.Assignments.{Assignment, sum_on, no_legs, all_legs, zeros, assignments_of}
 use Rattle.tv_spec_boxes.specs.Configurations.{fillings}
-use Rattle.tv_spec_boxes.specs.Numbers.{fall_by, low_of, least, lowest, as_natural, box_bound, crowd_on, crowd}
+use Rattle.tv_spec_boxes.specs.Numbers.{fall_by, low_of, least, lowest, box_bound, crowd_on, crowd}
 use Rattle.tv_laws_counts.proofs.Bounds.{lowest-none}
 use Rattle.tv_laws_families.proofs.ZeroClass.{nothing, assignments-none, overlaps-nothing, degree-zeros}
 

@@ -5,6 +5,7 @@ use Rattle.std.proofs.lemmas.Bool.Decides.{nat_tests}
 use Rattle.std.specs.List.{flat_map, AllByRecursion}
 use Rattle.std.proofs.lemmas.List.{length-map}
 use Rattle.std.proofs.lemmas.List.Concat.{flat_map_single}
+use Rattle.tv_lemmas.specs.Naturals.{as_natural}
 use Rattle.tv_lemmas.proofs.Members.{all-map, all-filter}
 use Rattle.tv_spec_plane.specs.Web.{Web, sign, degree_of}
 use Rattle.tv_cells.specs.declared.cell.Cell.{Cell}
@@ -12,7 +13,7 @@ use Rattle.tv_cells.specs.declared.legs.Legs.{Legs}
 use Rattle.tv_cells.specs.Cells.{cube, sublists_of}
 use Rattle.tv_cells.specs.Costs.{overlap_cost, overlaps}
 use Rattle.tv_cells.specs.Extras.{is_extras, extent, count}
-use Rattle.tv_spec_boxes.specs.Assignments.{all_legs, no_legs, zeros, assignments, choices, assignments_of, edge_costs, edge_twist, overlaps_of, weight}
+use Rattle.tv_spec_boxes.specs.Assignments.{all_legs, no_legs, zeros, assignments, choices, assignments_of, edge_costs, edge_twist, overlaps_of}
 use Rattle.tv_spec_boxes.specs.Configurations.{Configuration, extras_of, fillings, configuration, configurations, configuration_sign, boxes_left, chi_of, signed_count}
 use Rattle.tv_spec_boxes.specs.OneCorner.{IsOneCorner, empty_legs, with_sign, corner_coefficient}
 use Rattle.tv_spec_boxes.proofs.OneCornerWeb.{IsBare, one_corner_bare}
@@ -51,7 +52,7 @@ unfolding assignments choices
 only_assignment w h d = rw h.edges refl
 
 pub only_of_class : (w : Web) → IsBare w → assignments_of w (zeros 3) ≡ [] ∷ []
-only_of_class w h = let e = only_assignment w h (weight (degree_of w.heights (zeros 3))) in rw (e, h.edges, h.points) refl
+only_of_class w h = let e = only_assignment w h (as_natural (degree_of w.heights (zeros 3))) in rw (e, h.edges, h.points) refl
 
 -- the sign at a corner of n boxes
 abbrev sign_at : ℕ → ℤ

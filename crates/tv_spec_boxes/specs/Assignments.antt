@@ -16,17 +16,17 @@
 -- cost_by, edge_costs w a == the edge cost of the diagram on an edge, and the sum over the compact edges
 -- twist_by, edge_twist w a == the normal degree at a times the size, and the sum over the compact edges
 -- overlaps_of legs   == the sum of the overlap costs of the corners
--- weight g           == a positive degree as a natural number; 0 where it is not positive
 -- choices gs d       == one diagram for each degree, sizes times degrees adding up to at most d; of two diagrams the one of
 --                       fewer cells first, then the one with the greater row first
 -- assignments w d    == the assignments of degree at most d, each once, in order, by the diagrams in the order of edges:
 --                       of a web in which every compact edge has a degree of at least 1
 -- same_vector u v    == the two vectors are equal
 -- assignments_of w v == the assignments of class v
-use Rattle.std.specs.Prelude.{ℕ, zero, suc, ◌+◌, ◌-◌, ◌*◌, ℤ, pos, negsuc, ◌+ℤ◌, ◌*ℤ◌, List, [], ◌∷◌, map, filter, length, slice_index_or, Bool, nat_le}
+use Rattle.std.specs.Prelude.{ℕ, zero, suc, ◌+◌, ◌-◌, ◌*◌, ℤ, pos, ◌+ℤ◌, ◌*ℤ◌, List, [], ◌∷◌, map, filter, length, slice_index_or, Bool, nat_le}
 use Rattle.std.specs.Ordering.{int_eq}
 use Rattle.std.specs.Cmp.Lexicographic.{pointwise}
 use Rattle.std.specs.List.{flat_map}
+use Rattle.tv_lemmas.specs.Naturals.{as_natural}
 use Rattle.tv_spec_plane.specs.declared.records.CompactEdge.{CompactEdge}
 use Rattle.tv_spec_plane.specs.declared.records.OuterEdge.{OuterEdge}
 use Rattle.tv_spec_plane.specs.declared.records.EdgeRef.{EdgeRef}
@@ -102,21 +102,16 @@ abbrev pub overlaps_of : List Legs → ℕ
 overlaps_of [] = 0
 overlaps_of (legs ∷ rest) = overlap_cost legs + overlaps_of rest
 
--- a positive degree as a natural number
-abbrev pub weight : ℤ → ℕ
-weight (pos n) = n
-weight (negsuc n) = 0
-
 -- one diagram for each degree, with sizes times degrees adding up to at most d
 unfoldable pub choices : List ℕ → ℕ → List Assignment
 choices [] d = [] ∷ []
 choices (g ∷ gs) d = flat_map (λ n. flat_map (λ rows. map (λ a. rows ∷ a) (choices gs (d - (n * g)))) (diagrams n)) (filter (λ n. nat_le (n * g) d) (below (suc d)))
 
 unfoldable pub assignments : Web → ℕ → List Assignment
-assignments w d = choices (map (λ e. weight (edge_degree w e)) (compact w)) d
+assignments w d = choices (map (λ e. as_natural (edge_degree w e)) (compact w)) d
 
 abbrev pub same_vector : List ℤ → List ℤ → Bool
 same_vector = pointwise int_eq
 
 abbrev pub assignments_of : Web → List ℤ → List Assignment
-assignments_of w v = filter (λ a. same_vector (class_of w a) v) (assignments w (weight (degree_of w.heights v)))
+assignments_of w v = filter (λ a. same_vector (class_of w a) v) (assignments w (as_natural (degree_of w.heights v)))

@@ -4,13 +4,13 @@
 -- low_of w fixed a   == the sum of min(0, edge cost) over the compact edges less the overlap costs
 -- least f xs         == the least of 0 and of f over the list
 -- lowest w fixed d   == the least low over the assignments of degree at most d
--- as_natural z       == z, or 0 where it is below 0
 -- box_bound n low    == max(0, n - 2 low)
 -- crowd_on legs n    == the number of fillings of these corners with at most n boxes
 -- crowd w fixed d n v == the number of configurations of class v with at most max(0, n - 2 lowest) boxes in all; 0
 --                       where the degree of v is below 0 or above d
-use Rattle.std.specs.Prelude.{ℕ, suc, ◌+◌, ℤ, pos, negsuc, ◌+ℤ◌, ◌-ℤ◌, List, [], ◌∷◌, length, cond, ◌&&◌, int_le}
+use Rattle.std.specs.Prelude.{ℕ, suc, ◌+◌, ℤ, pos, ◌+ℤ◌, ◌-ℤ◌, List, [], ◌∷◌, length, cond, ◌&&◌, int_le}
 use Rattle.std.specs.Int.{int_min}
+use Rattle.tv_lemmas.specs.Naturals.{as_natural}
 use Rattle.tv_lemmas.specs.Sums.{sum_of}
 use Rattle.tv_spec_plane.specs.declared.records.CompactEdge.{CompactEdge}
 use Rattle.tv_spec_plane.specs.Web.{Web, compact, below, degree_of}
@@ -30,10 +30,6 @@ least f (x ∷ xs) = int_min (f x) (least f xs)
 
 unfoldable pub lowest : Web → List Rows → ℕ → ℤ
 lowest w fixed d = least (low_of w fixed) (assignments w d)
-
-abbrev pub as_natural : ℤ → ℕ
-as_natural (pos n) = n
-as_natural (negsuc n) = 0
 
 abbrev pub box_bound : ℤ → ℤ → ℕ
 box_bound n low = as_natural ((n -ℤ low) -ℤ low)
