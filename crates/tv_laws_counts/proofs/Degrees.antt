@@ -10,13 +10,12 @@ use Rattle.tv_lemmas.specs.Naturals.{as_natural}
 use Rattle.tv_lemmas.proofs.Integers.{diff_of, diff-same, diffs}
 use Rattle.tv_lemmas.proofs.Integers.{mul-add}
 use Rattle.tv_spec_plane.specs.declared.records.CompactEdge.{CompactEdge}
-use Rattle.tv_spec_plane.specs.Web.{Web, compact, class_entry, edge_class, edge_degree, degree_of}
+use Rattle.tv_spec_plane.specs.Web.{Web, compact, edge_class, edge_degree, degree_of}
 use Rattle.tv_partition.specs.Rows.{size}
-use Rattle.tv_spec_boxes.specs.Assignments.{Assignment, zeros, plus, times, class_on, class_of, choices, assignments, same_vector}
-use Rattle.tv_spec_boxes.proofs.Vectors.{same_vector_tells}
+use Rattle.tv_spec_boxes.specs.Assignments.{Assignment, plus, times, class_on, class_of, choices, assignments, same_vector}
+use Rattle.tv_spec_boxes.proofs.Vectors.{same_vector_tells, length-class_of}
 use Rattle.tv_spec_boxes.proofs.OneCornerCrowd.{degree_zero}
 use Rattle.tv_spec_plane.specs.Graded.{HasDegree, IsGraded}
-use Rattle.std.proofs.lemmas.List.FromFn.{length-map-range_with_len}
 use Rattle.tv_laws_counts.specs.Ways.{IsListed}
 use Rattle.tv_laws_counts.specs.Laws.{AssignmentsByDegree, AssignmentsListed}
 use Rattle.tv_lemmas.proofs.Lists.{filter-weaker}
@@ -82,30 +81,11 @@ assignments_by_degree w d v graded h =
     ap (filter (λ a. same_vector (class_of w a) v)) (choices-within (weights w (compact w)) (weights_positive w (compact w) graded) m d (as_natural-within (degree_of w.heights v) d h))
     ∙ filter-weaker (λ a. same_vector (class_of w a) v) (λ a. nat_le (degree_by (weights w (compact w)) a) m) (class-within w graded v) (choices (weights w (compact w)) d)
 
--- the length of a class
-length-zeros : (n : ℕ) → length (zeros n) ≡ n
-length-zeros zero = refl
-length-zeros (suc n) = ap suc (length-zeros n)
-
-length-plus : (u v : List ℤ) → length u ≡ length v → length (plus u v) ≡ length v
-length-plus [] v e = refl
-length-plus (x ∷ u) [] e = e
-length-plus (x ∷ u) (y ∷ v) e = ap suc (length-plus u v (omega arith))
-
-class_on-length : (w : Web) (es : List CompactEdge) (a : Assignment) → length (class_on w es a) ≡ length w.points
-class_on-length w [] a = length-zeros (length w.points)
-class_on-length w (e ∷ es) [] = length-zeros (length w.points)
-class_on-length w (e ∷ es) (rows ∷ a) =
-    let first = length-map (edge_class w e) (λ x. pos (size rows) *ℤ x) in
-    let rest = class_on-length w es a in
-    let entries = length-map-range_with_len (class_entry w e) 0 (length w.points) in
-    length-plus (times (size rows) (edge_class w e)) (class_on w es a) (omega arith) ∙ rest
-
 is_listed : (w : Web) (d : ℕ) → IsGraded w → (a : Assignment) → IsChoice (weights w (compact w)) d a → IsListed w d a
 is_listed w d graded a is = record {
   one_each = is.one_each ∙ length-map (compact w) (λ e. as_natural (edge_degree w e));
   diagrams = choice_small (weights w (compact w)) d a (weights_positive w (compact w) graded) is.one_each is.diagrams is.within;
-  entries = class_on-length w (compact w) a;
+  entries = length-class_of w a;
   least = let e = class_of-degree w graded a in omega (arith, ints);
   most = let e = class_of-degree w graded a in let h = is.within in omega (arith, ints);
 }
