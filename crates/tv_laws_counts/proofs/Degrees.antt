@@ -42,7 +42,7 @@ degree_of-times (h ∷ hs) n (x ∷ v) = omega (arith, ints, mul-exchange h (pos
 abbrev pub weights : Web → List CompactEdge → List ℕ
 weights w es = map (λ e. as_natural (edge_degree w e)) es
 
-as_natural-positive : (z : ℤ) → pos 0 <ℤ z → z ≡ pos (as_natural z)
+pub as_natural-positive : (z : ℤ) → pos 0 <ℤ z → z ≡ pos (as_natural z)
 as_natural-positive (pos n) h = refl
 as_natural-positive (negsuc n) h = absurd (omega (arith, ints))
 

@@ -4,6 +4,7 @@ pub mod Lists
 pub mod InRings
 pub mod Fillings
 pub mod Choices
+pub mod Assigned
 pub mod SignedCounts
 pub mod Degrees
 pub mod Bounds

@@ -1,3 +1,4 @@
+pub mod Distinct
 pub mod Integers
 pub mod Lists
 pub mod Members
