@@ -4,7 +4,8 @@
 ghost use Rattle.std.specs.Prelude.{◌≡◌, ◌<◌, ◌≤◌, ◌+◌, ◌*◌, ◌-◌, ◌++◌, ◌∷◌, [], true, false, map, length, IfOk, OnOk, MatchOption, nat_le};
 ghost use Rattle.tv_spec_plane.specs.Web.{compact, edge_degree};
 ghost use Rattle.tv_degrees.specs.Edges.{edge_at};
-ghost use Rattle.tv_spec_boxes.specs.Assignments.{assignments, choices, weight};
+ghost use Rattle.tv_spec_boxes.specs.Assignments.{assignments, choices};
+ghost use Rattle.tv_lemmas.specs.Naturals.{as_natural};
 ghost use Rattle.tv_assignment.specs.Listing.{behind, sized, degrees_of, AreSizes};
 
 use crate::assignment::{Assignment, copy_of};
@@ -39,7 +40,7 @@ fn degrees_of(alloc: Global, web: &GradedWeb) -> Result<Vec<u64>, AllocError>
 
 fn degree_at(web: &GradedWeb, e: u32) -> u64
     requires { e < length (compact web.now) }
-    ensures { result ≡ weight (edge_degree web.now (edge_at web.now e)) }
+    ensures { result ≡ as_natural (edge_degree web.now (edge_at web.now e)) }
 {
     web.degree_of(e) as u64
 }

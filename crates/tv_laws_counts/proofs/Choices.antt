@@ -12,7 +12,7 @@ use Rattle.tv_spec_plane.specs.Web.{below}
 use Rattle.tv_partition.specs.Rows.{IsDiagram, size, diagrams}
 use Rattle.tv_partition.proofs.Members.{diagrams-are-all}
 use Rattle.tv_spec_boxes.specs.Assignments.{Rows, Assignment, choices}
-use Rattle.tv_spec_boxes.proofs.Sums.{flat_map-none}
+use Rattle.tv_lemmas.proofs.Lists.{flat_map-none}
 use Rattle.tv_laws_counts.specs.Ways.{IsAtMost}
 use Rattle.tv_lemmas.proofs.Lists.{flat_map-same, flat_map-same_on, flat_map-filter, filter-map, filter-flat_map, filter-same_on, filter-none}
 use Rattle.tv_lemmas.proofs.Members.{all-flat_map, all-map, all-any, all-filter, all-found}

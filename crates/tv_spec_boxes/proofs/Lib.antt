@@ -1,5 +1,5 @@
 mod Values
-pub mod Sums
+pub mod Sublists
 pub mod Vectors
 pub mod OneCornerWeb
 pub mod OneCornerCount
