@@ -1,5 +1,5 @@
 -- The two cuts leave out no extras: a cell that can't enter is in none, and a gap that is left is filled in none.
-use Rattle.std.proofs.Common.{◌≡◌, ℕ, suc, ◌+◌, ◌-◌, Bool, true, false, ◌||◌, List, [], ◌∷◌, ◌++◌, length, nat_eq, nat_lt, arith, refl, sym, ◌∙◌, ap, inl, inr}
+use Rattle.std.proofs.Common.{◌≡◌, ℕ, suc, ◌+◌, ◌-◌, Bool, true, false, ◌||◌, List, [], ◌∷◌, ◌++◌, nat_eq, nat_lt, arith, refl, sym, ◌∙◌, inl, inr}
 use Rattle.std.specs.List.{list_any}
 use Rattle.std.proofs.lemmas.Bool.{or_left, or_right, and_parts, and_from, or_cases, cases_Bool}
 use Rattle.std.proofs.lemmas.Bool.Decides.{nat_tests}
@@ -10,9 +10,9 @@ use Rattle.tv_cells.specs.Cells.{cell, same, precedes, rises, sublists_of}
 use Rattle.tv_cells.specs.Extras.{legs_at, in_union, is_extras}
 use Rattle.tv_cells.proofs.Rising.{Before, before_earlier, before_rising, absent, absent_earlier, or_none, rises-drop, same_itself}
 use Rattle.tv_cells.proofs.Downward.{extras_stand, step_down}
-use Rattle.tv_vertex.specs.Rest.{rest, enters, leaves_gap}
+use Rattle.tv_cells.specs.Cuts.{extras_after, enters, leaves_gap, CutsDropNone}
 use Rattle.tv_lemmas.proofs.Lists.{filter-none_on}
-use Rattle.tv_vertex.proofs.Lists.{sublists-before}
+use Rattle.tv_cells.proofs.Sublists.{sublists-before}
 
 -- what would make a test that fails hold doesn't hold
 unless : (a b : Bool) → b ≡ false → (a ≡ true → b ≡ true) → a ≡ false
@@ -76,12 +76,11 @@ extras_enter legs chosen c s b all =
     (and_from (nat_eq c.y 0 || in_union legs chosen (cell c.x (c.y - 1) c.z)) _ (rests_y legs chosen c s b parts.along_y) (rests_z legs chosen c s b parts.along_z))
 
 -- no extras have a cell that can't enter
-pub rest-refused : (legs : Legs) (chosen : List Cell) (c : Cell) (cells : List Cell) (n : ℕ) → rises (chosen ++ c ∷ cells) ≡ true → enters legs chosen c ≡ false → rest legs (chosen ++ c ∷ []) cells n ≡ 0
-unfolding rest
-rest-refused legs chosen c cells n r off =
-    ap length (filter-none_on (Before c) (λ s. is_extras legs ((chosen ++ c ∷ []) ++ s))
+pub after-refused : (legs : Legs) (chosen : List Cell) (c : Cell) (cells : List Cell) (n : ℕ) → rises (chosen ++ c ∷ cells) ≡ true → enters legs chosen c ≡ false → extras_after legs (chosen ++ c ∷ []) cells n ≡ []
+after-refused legs chosen c cells n r off =
+    filter-none_on (Before c) (λ s. is_extras legs ((chosen ++ c ∷ []) ++ s))
     (λ s b. unless (is_extras legs ((chosen ++ c ∷ []) ++ s)) (enters legs chosen c) off (extras_enter legs chosen c s b))
-    (sublists_of n cells) (sublists-before c n cells (before_rising c cells (rises-drop chosen (c ∷ cells) r))))
+    (sublists_of n cells) (sublists-before c n cells (before_rising c cells (rises-drop chosen (c ∷ cells) r)))
 
 -- with the cell above it the extras have the cell
 filled : (legs : Legs) (chosen : List Cell) (c : Cell) (s : List Cell) → list_any (same (cell (c.x + 1) c.y c.z)) chosen ≡ true → is_extras legs (chosen ++ s) ≡ true → in_union legs (chosen ++ s) c ≡ true
@@ -95,11 +94,11 @@ no_leg : (n : ℕ) → nat_eq n 0 ≡ true → nat_lt 0 n ≡ false
 no_leg n e = grind (arith, nat_tests)
 
 -- no extras fill the gap later
-pub rest-gap : (legs : Legs) (chosen : List Cell) (c : Cell) (cells : List Cell) (n : ℕ) → rises (chosen ++ c ∷ cells) ≡ true → leaves_gap legs chosen c ≡ true → rest legs chosen cells n ≡ 0
-unfolding rest leaves_gap
-rest-gap legs chosen c cells n r gap =
-    ap length (filter-none_on (Before c) (λ s. is_extras legs (chosen ++ s)) none
-    (sublists_of n cells) (sublists-before c n cells (before_rising c cells (rises-drop chosen (c ∷ cells) r))))
+pub after-gap : (legs : Legs) (chosen : List Cell) (c : Cell) (cells : List Cell) (n : ℕ) → rises (chosen ++ c ∷ cells) ≡ true → leaves_gap legs chosen c ≡ true → extras_after legs chosen cells n ≡ []
+unfolding leaves_gap
+after-gap legs chosen c cells n r gap =
+    filter-none_on (Before c) (λ s. is_extras legs (chosen ++ s)) none
+    (sublists_of n cells) (sublists-before c n cells (before_rising c cells (rises-drop chosen (c ∷ cells) r)))
   where
     none : (s : List Cell) → Before c s → is_extras legs (chosen ++ s) ≡ false
     none s b =
@@ -108,3 +107,6 @@ rest-gap legs chosen c cells n r gap =
         unless (is_extras legs (chosen ++ s)) (in_union legs (chosen ++ s) c)
         (or_none (nat_lt 0 (legs_at legs c)) (list_any (same c) (chosen ++ s)) (no_leg (legs_at legs c) parts.0) outside)
         (filled legs chosen c s parts.1)
+
+pub cuts-drop-none : CutsDropNone
+cuts-drop-none = record { refused = after-refused; gap = after-gap }
