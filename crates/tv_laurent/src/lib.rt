@@ -16,7 +16,6 @@ pub use coefficient::Coefficient;
 pub use fault::SeriesFault;
 pub use poly::LPoly;
 pub use series::Series;
-pub use tv_laws_series::laws;
 
 #[cfg(test)]
 mod tests;

@@ -179,8 +179,15 @@ impl<C: Ring> Ring for LPoly<C> {
         LPoly::term(alloc, 0, C::one(alloc)?)
     }
 
+    // Zero begins at exponent 0, which may be far from where the other one begins.
     fn add(&self, other: &Self) -> Result<Self, RingFault> {
         let low = self.low.min(other.low);
+        if other.coefficients.len() == 0 {
+            return self.copy();
+        }
+        if self.coefficients.len() == 0 {
+            return other.copy();
+        }
         let before = places(low, self.low);
         let before_other = places(low, other.low);
         let count = (before + self.coefficients.len()).max(before_other + other.coefficients.len());
