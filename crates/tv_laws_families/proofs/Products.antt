@@ -104,7 +104,7 @@ same_factor x y c some e =
     omega (arith, ints)
 
 -- a product by its last term
-convolution-last : (d g : ℕ → ℤ) (k : ℕ) → convolution wholes d g k ≡ owed wholes d g k +ℤ (d k *ℤ g 0)
+pub convolution-last : (d g : ℕ → ℤ) (k : ℕ) → convolution wholes d g k ≡ owed wholes d g k +ℤ (d k *ℤ g 0)
 convolution-last d g k =
     let e : k - k ≡ 0 = omega arith in
     rw (convolution_is wholes d g k, sum_below-more wholes (term wholes d g k) k, term_is wholes d g k k, e, owed_is wholes d g k) refl

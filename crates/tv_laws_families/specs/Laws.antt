@@ -11,16 +11,23 @@
 --                        degree at most d, of the sum of min(0, edge cost) over the compact edges less the overlap costs
 -- AgreeThrough r n f g == the families have the same classes in the same order, and the same coefficients through n
 -- ReducedIsOnly r     == two reduced families of one web, with the same diagrams on the open edges, agree through their order
-use Rattle.std.specs.Prelude.{◌≡◌, ℕ, ℤ, pos, ◌≤ℤ◌, ◌<ℤ◌, List}
+-- IsOne r n s         == s is one at exponent 0 and nought elsewhere, through n
+-- AreAtMost b v       == each entry of v is at most b in absolute value
+-- HasReducedClasses r w b n f == class zero is there, and its series is one; every other class has a degree of at least 1; and
+--                        each entry of a class is at most b times its degree in absolute value
+-- ReducedClasses r    == a reduced family of a graded web, with all open edges empty, has such classes where each entry of the
+--                        class of each compact edge is at most b: it is at most 402 where no coordinate is over 100
+use Rattle.std.specs.Prelude.{◌≡◌, ◌≢◌, ◌⊎◌, Contains, ℕ, ◌≤◌, ℤ, pos, ◌*ℤ◌, ◌≤ℤ◌, ◌<ℤ◌, unsigned_abs, List, length}
 use Rattle.std.specs.List.{AllByRecursion}
-use Rattle.tv_spec_plane.specs.Web.{Web, degree_of}
+use Rattle.tv_spec_plane.specs.Web.{Web, compact, edge_class, degree_of}
 use Rattle.tv_partition.specs.Rows.{IsDiagram}
 use Rattle.tv_ring.specs.Operations.{Operations}
 use Rattle.tv_spec_plane.specs.Graded.{IsGraded}
-use Rattle.tv_spec_boxes.specs.Assignments.{Rows, no_legs}
+use Rattle.tv_spec_boxes.specs.Assignments.{Rows, no_legs, zeros}
 use Rattle.tv_spec_boxes.specs.Configurations.{signed_count}
 use Rattle.tv_spec_boxes.specs.Numbers.{lowest}
-use Rattle.tv_spec_series.specs.Families.{Family, classes, coefficient_of}
+use Rattle.tv_laws_series.specs.Terms.{Terms}
+use Rattle.tv_spec_series.specs.Families.{Family, classes, coefficient, coefficient_of}
 use Rattle.tv_spec_series.specs.Full.{IsFull}
 use Rattle.tv_spec_series.specs.Reduced.{product_at, IsQuotient, zero_coefficient}
 use Rattle.tv_spec_series.specs.ReducedFamilies.{IsReducedFamily}
@@ -56,3 +63,19 @@ pub record AgreeThrough {A : Type 0} (r : Operations A) (n : ℤ) (f g : Family 
 
 abbrev pub ReducedIsOnly : {A : Type 0} → Operations A → Type 0
 ReducedIsOnly {A} r = (w : Web) (fixed : List Rows) (d : ℕ) (n : ℤ) (f g : Family A) → IsReducedFamily r w fixed d n f → IsReducedFamily r w fixed d n g → AgreeThrough r n f g
+
+pub record IsOne {A : Type 0} (r : Operations A) (n : ℤ) (s : Terms A) : Type 0 where
+  pub unit : pos 0 ≤ℤ n → coefficient r s (pos 0) ≡ r.unit
+  pub others : (i : ℤ) → i ≤ℤ n → i ≢ pos 0 → coefficient r s i ≡ r.nought
+
+abbrev pub AreAtMost : ℕ → List ℤ → Type 0
+AreAtMost b v = AllByRecursion (λ x. unsigned_abs x ≤ b) v
+
+pub record HasReducedClasses {A : Type 0} (r : Operations A) (w : Web) (b : ℕ) (n : ℤ) (f : Family A) : Type 0 where
+  pub zero : Contains (classes f.rows) (zeros (length w.points))
+  pub one : AllByRecursion (λ row. row.class ≡ zeros (length w.points) → IsOne r n row.series) f.rows
+  pub others : AllByRecursion (λ v. (v ≡ zeros (length w.points)) ⊎ (pos 0 <ℤ degree_of w.heights v)) (classes f.rows)
+  pub entries : AllByRecursion (λ v. AllByRecursion (λ x. pos (unsigned_abs x) ≤ℤ (pos b *ℤ degree_of w.heights v)) v) (classes f.rows)
+
+abbrev pub ReducedClasses : {A : Type 0} → Operations A → Type 0
+ReducedClasses {A} r = (w : Web) (b d : ℕ) (n : ℤ) (f : Family A) → IsGraded w → AllByRecursion (λ e. AreAtMost b (edge_class w e)) (compact w) → IsReducedFamily r w (no_legs w) d n f → HasReducedClasses r w b n f

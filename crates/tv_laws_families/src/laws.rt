@@ -1,7 +1,7 @@
 //! Laws of the full series: each function does nothing, and its contract is a law.
 
 ghost use Rattle.tv_laws_families.specs.Laws.{FullIsOnly};
-ghost use Rattle.tv_laws_families.specs.Laws.{OnlyQuotientThrough, QuotientFromZero, BeginsWithOne, NothingBelow, ReducedIsOnly};
+ghost use Rattle.tv_laws_families.specs.Laws.{OnlyQuotientThrough, QuotientFromZero, BeginsWithOne, NothingBelow, ReducedIsOnly, ReducedClasses};
 
 use tv_ring::Ring;
 
@@ -36,4 +36,11 @@ pub fn nothing_below_the_lowest()
 /// same coefficients through their order.
 pub fn reduced_is_only<C: Ring>()
     ensures law { ReducedIsOnly C.ring }
+{}
+
+/// A reduced family of a graded web, with all open edges empty, has class zero, and its series is 1; every other class has a
+/// degree of at least 1; and where each entry of the class of each compact edge is at most b in absolute value, each entry of a
+/// class is at most b times its degree.
+pub fn reduced_classes<C: Ring>()
+    ensures law { ReducedClasses C.ring }
 {}
