@@ -58,13 +58,15 @@ quotient_from-at z g low k =
 unfoldable pub quotient_is : (n : ℤ) (z g : ℤ → ℤ) (low : ℤ) → g (pos 0) ≡ pos 1 → ((j : ℤ) → j <ℤ pos 0 → g j ≡ pos 0) → ((i : ℤ) → i <ℤ low → z i ≡ pos 0) → IsQuotient n z g (quotient_from z g low)
 quotient_is n z g low one begins none = record {
   low = low;
+  first = pos 0;
   none = quotient_from-below z g low;
-  begins = begins;
+  begins = record { none = begins; some = λ e. omega (arith, ints) };
   product = λ m h. by_lt_z m low
-      (λ below. product-below low (quotient_from z g low) g m below ∙ sym (none m below))
+      (λ below. product-below low (pos 0) (quotient_from z g low) g m (omega (arith, ints)) ∙ sym (none m below))
       (λ reached. let e : low +ℤ pos (above low m) ≡ m = above_adds low m reached in
-      ap (product_at low (quotient_from z g low) g) (sym e)
-      ∙ (product-at low (quotient_from z g low) g (above low m)
+      let at : (low +ℤ pos 0) +ℤ pos (above low m) ≡ m = omega (arith, ints) in
+      ap (product_at low (pos 0) (quotient_from z g low) g) (sym at)
+      ∙ (product-at low (pos 0) (quotient_from z g low) g (above low m)
       ∙ (convolution-same wholes (from (quotient_from z g low) low) (quotient wholes (from z low) (from g (pos 0))) (from g (pos 0)) (from g (pos 0)) (above low m) (λ i _. quotient_from-at z g low i) (λ i _. refl)
       ∙ (quotient-convolution whole_laws (from z low) (from g (pos 0)) (above low m) (λ i. tt) (λ i. tt) one ∙ ap z e))));
 }
@@ -161,6 +163,10 @@ module _ {A : Type 0} {IsValue : A → Type 0} {r : Operations A} (laws : RingLa
     pub given_quotient-low : given_quotient.low ≡ int_min a.low given.least
     unfolding given_quotient quotient_is
     given_quotient-low = refl
+
+    pub given_quotient-first : given_quotient.first ≡ pos 0
+    unfolding given_quotient quotient_is
+    given_quotient-first = refl
 
     pub quotient_known : upto (series_quotient r a b) ≡ n
     quotient_known =

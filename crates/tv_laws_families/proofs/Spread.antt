@@ -73,11 +73,14 @@ module _ {A : Type 0} {IsValue : A → Type 0} {r : Operations A} (laws : RingLa
       ∙ (ap (λ k. unsigned_abs (reduced (m -ℤ pos (suc j))) * unsigned_abs (g (pos k))) across
       ∙ mul_comm (unsigned_abs (reduced (m -ℤ pos (suc j)))) (unsigned_abs (g (pos (suc j))))))
 
-  quotient_size_is : (low m : ℤ) → quotient_size z g reduced low m ≡ unsigned_abs (z m) + total_below (turned m) (above low m)
+  quotient_size_is : (low m : ℤ) → quotient_size z g reduced low (pos 0) m ≡ unsigned_abs (z m) + total_below (turned m) (above low m)
   unfolding quotient_size
-  quotient_size_is low m = refl
+  quotient_size_is low m =
+      let at : pos 0 +ℤ m ≡ m = omega (arith, ints) in
+      let terms = total_below-same (λ j. unsigned_abs (g (pos 0 +ℤ pos (suc j))) * unsigned_abs (reduced (m -ℤ pos (suc j)))) (turned m) (above low m) (λ j h. ap (λ (i : ℤ). unsigned_abs (g i) * unsigned_abs (reduced (m -ℤ pos (suc j)))) (omega (arith, ints))) in
+      ap (λ (i : ℤ). unsigned_abs (z i) + total_below (λ j. unsigned_abs (g (pos 0 +ℤ pos (suc j))) * unsigned_abs (reduced (m -ℤ pos (suc j)))) (above low m)) at ∙ ap (λ t. unsigned_abs (z m) + t) terms
 
-  pub spread-wide : (place : ℕ) (m : ℤ) → m ≡ a.low +ℤ pos place → place < min (length a.coefficients) (length b.coefficients) → limit < r.size (at r a.coefficients place) + total_below (size_term r (at r (series_quotient r a b).coefficients) (at r b.coefficients) place) place → limit < quotient_size z g reduced (int_min a.low given.least) m * r.size r.unit
+  pub spread-wide : (place : ℕ) (m : ℤ) → m ≡ a.low +ℤ pos place → place < min (length a.coefficients) (length b.coefficients) → limit < r.size (at r a.coefficients place) + total_below (size_term r (at r (series_quotient r a b).coefficients) (at r b.coefficients) place) place → limit < quotient_size z g reduced (int_min a.low given.least) (pos 0) m * r.size r.unit
   spread-wide place m e h wide =
       let s = r.size r.unit in let low = int_min a.low given.least in
       let first = first_size place m e (omega arith) in

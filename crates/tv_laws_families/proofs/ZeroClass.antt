@@ -45,11 +45,11 @@ pub assignments-none : (w : Web) → assignments w 0 ≡ nothing (compact w) ∷
 unfolding assignments
 assignments-none w = choices-none (map (λ e. as_natural (edge_degree w e)) (compact w)) ∙ ap (λ a. a ∷ []) (nothing-map (λ e. as_natural (edge_degree w e)) (compact w))
 
-times-none : (v : List ℤ) → times 0 v ≡ zeros (length v)
+pub times-none : (v : List ℤ) → times 0 v ≡ zeros (length v)
 times-none [] = refl
 times-none (x ∷ v) = let e : pos 0 *ℤ x ≡ pos 0 = omega (arith, ints) in rw (e, times-none v) refl
 
-plus-zeros : (n : ℕ) → plus (zeros n) (zeros n) ≡ zeros n
+pub plus-zeros : (n : ℕ) → plus (zeros n) (zeros n) ≡ zeros n
 plus-zeros zero = refl
 plus-zeros (suc n) = ap (λ v. pos 0 ∷ v) (plus-zeros n)
 
@@ -68,7 +68,7 @@ same-zeros : (n : ℕ) → same_vector (zeros n) (zeros n) ≡ true
 same-zeros zero = refl
 same-zeros (suc n) = same-zeros n
 
-assignments_of-zero : (w : Web) → assignments_of w (zeros (length w.points)) ≡ nothing (compact w) ∷ []
+pub assignments_of-zero : (w : Web) → assignments_of w (zeros (length w.points)) ≡ nothing (compact w) ∷ []
 assignments_of-zero w =
     let low = ap as_natural (degree-zeros w.heights (length w.points)) in
     let all = ap (assignments w) low ∙ assignments-none w in
