@@ -45,15 +45,15 @@ turned-at ps [] i l = absurd (omega arith)
 turned-at ps (t ∷ ts) zero l = refl
 turned-at ps (t ∷ ts) (suc i) l = turned-at ps ts i (omega arith)
 
-abbrev owns : Web → ℕ → ℕ → ℕ → Bool
+abbrev pub owns : Web → ℕ → ℕ → ℕ → Bool
 owns w a b t = has (triangle_at w.triangles t) a && has (triangle_at w.triangles t) b
 
 module _ (w : Web) (coordinates : AllByRecursion HasCoordinates w.points) (tiled : IsTiled w.points w.triangles) where
-  owner_beside : (a b t : ℕ) → a ≢ b → t < length w.triangles → owns w a b t ≡ true → IsBeside w.points (turned_of w.points (triangle_at w.triangles t)) a b (opposite (triangle_at w.triangles t) a b)
+  pub owner_beside : (a b t : ℕ) → a ≢ b → t < length w.triangles → owns w a b t ≡ true → IsBeside w.points (turned_of w.points (triangle_at w.triangles t)) a b (opposite (triangle_at w.triangles t) a b)
   owner_beside a b t apart l h = let both = and_parts (has (triangle_at w.triangles t) a) (has (triangle_at w.triangles t) b) h in
       beside_edge w.points (triangle_at w.triangles t) a b (all-at (IsListed w.points) w.triangles no_triple tiled.listed t l) (all-at (IsUnit w.points) w.triangles no_triple tiled.unit t l) apart both.0 both.1
 
-  sides_apart : (t u : ℕ) → t < u → u < length w.triangles → (s : ℕ × ℕ) → Among s (sides (turned_of w.points (triangle_at w.triangles t))) → Among s (sides (turned_of w.points (triangle_at w.triangles u))) → ⊥
+  pub sides_apart : (t u : ℕ) → t < u → u < length w.triangles → (s : ℕ × ℕ) → Among s (sides (turned_of w.points (triangle_at w.triangles t))) → Among s (sides (turned_of w.points (triangle_at w.triangles u))) → ⊥
   sides_apart t u l m s p q =
       let first = rw (turned-at w.points w.triangles t (omega arith)) at (no_shared_side w.points w.triangles coordinates tiled s t u l m) in
       let second = rw (turned-at w.points w.triangles u m) at first in
@@ -64,7 +64,7 @@ module _ (w : Web) (coordinates : AllByRecursion HasCoordinates w.points) (tiled
   rule_by a b apart (t ∷ []) h = tt
   rule_by a b apart (t ∷ u ∷ []) h =
       let c = opposite (triangle_at w.triangles t) a b in let d = opposite (triangle_at w.triangles u) a b in
-      edge_by w (turned_of w.points (triangle_at w.triangles t)) (turned_of w.points (triangle_at w.triangles u)) a b c d t u (nat_lt c d) (sides_apart t u h.3.0 h.3.1) (owner_beside a b t apart h.1 h.2) (owner_beside a b u apart h.3.1 h.3.2)
+      edge_by w (turned_of w.points (triangle_at w.triangles t)) (turned_of w.points (triangle_at w.triangles u)) a b c d t u (nat_lt c d) (sides_apart t u (omega (arith, h.3.0)) h.3.1) (owner_beside a b t apart h.1 h.2) (owner_beside a b u apart h.3.1 h.3.2)
   rule_by a b apart (t ∷ u ∷ v ∷ ts) h = tt
 
   rules : AllByRecursion (HasRule w) (compact w)

@@ -5,6 +5,7 @@ ghost use Rattle.std.specs.List.{AllByRecursion};
 ghost use Rattle.tv_spec_plane.specs.Web.{compact, outer, corners};
 ghost use Rattle.tv_lattice.specs.Limits.{HasCoordinates};
 ghost use Rattle.tv_laws_edges.specs.Rule.{HasEdgeRule};
+ghost use Rattle.tv_laws_tiled_edges.specs.Laws.{NamesEdges};
 ghost use Rattle.tv_web.specs.Built.{bare_web};
 
 use crate::corners::corners_of;
@@ -93,9 +94,11 @@ impl Web {
         &self.corners
     }
 
-    /// Tells that every compact edge has its rule and that the coordinates are within their limit, and does nothing.
+    /// Tells that every compact edge has its rule, that each edge of a corner stands in its list and is that of its two
+    /// points, and that the coordinates are within their limit, and does nothing.
     pub fn known(&self)
         ensures rule { HasEdgeRule self.now }
+        ensures named { AllByRecursion (NamesEdges self.now) (corners self.now) }
         ensures coordinates { AllByRecursion HasCoordinates self.now.points }
     {
         let _ = self.points.len();
