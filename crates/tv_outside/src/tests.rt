@@ -121,6 +121,96 @@ fn errors_of_std_are_faults(rt: HostRuntime) -> Result<(), Fail> {
     Ok(())
 }
 
+// A reader and a writer of std that err `errs` times, then take nothing `stalls` times, then give or take three bytes. It
+// counts how often it was asked, and a flush before anything was written errs.
+#[derive(Drop)]
+struct Shaky {
+    errs: u32,
+    stalls: u32,
+    calls: u32,
+    flushes: u32,
+    written: bool,
+}
+
+fn failing_first(errs: u32, stalls: u32) -> Shaky {
+    Shaky {
+        errs,
+        stalls,
+        calls: 0,
+        flushes: 0,
+        written: false,
+    }
+}
+
+impl Read for Shaky {
+    fn read(&mut self, buf: &mut [u8]) -> io::Result<usize> {
+        self.calls = self.calls.saturating_add(1);
+        let count = buf.len().min(3);
+        // An error of std may leave anything in the buffer.
+        buf[..count].fill(b'x');
+        if self.calls <= self.errs {
+            return Err(io::Error::from(ErrorKind::Interrupted));
+        }
+        Ok(count)
+    }
+}
+
+impl Write for Shaky {
+    fn write(&mut self, buf: &[u8]) -> io::Result<usize> {
+        self.calls = self.calls.saturating_add(1);
+        if self.calls <= self.errs {
+            return Err(io::Error::from(ErrorKind::Interrupted));
+        }
+        self.written = true;
+        if self.calls <= self.stalls {
+            return Ok(0);
+        }
+        Ok(buf.len().min(3))
+    }
+
+    fn flush(&mut self) -> io::Result<()> {
+        self.flushes = self.flushes.saturating_add(1);
+        if self.written {
+            Ok(())
+        } else {
+            Err(io::Error::from(ErrorKind::BrokenPipe))
+        }
+    }
+}
+
+// One read is one call of the reader: the first, which errs, is Failed with one fault, and only the next one gives bytes.
+#[test]
+fn a_reader_that_errs_once_is_not_asked_again(rt: HostRuntime) -> Result<(), Fail> {
+    let mut reader = failing_first(1, 0);
+    let mut source = StdSource::new(&mut reader);
+    let mut buf = [7; 4];
+    assert_eq!(rt; source.read(&mut buf), Err(Failed));
+    assert_eq!(rt; buf.as_slice(), [7, 7, 7, 7].as_slice());
+    assert_eq!(rt; (source.calls(), source.faults()), (1, 1));
+    assert_eq!(rt; source.read(&mut buf), Ok(3));
+    assert_eq!(rt; buf.as_slice(), b"xxx\x07".as_slice());
+    assert_eq!(rt; (source.calls(), source.faults()), (2, 1));
+    drop(source);
+    assert_eq!(rt; reader.calls, 2);
+    Ok(())
+}
+
+// So is a write, whether the writer errs or takes nothing, and its flush comes after it.
+#[test]
+fn a_writer_that_fails_once_is_not_asked_again(rt: HostRuntime) -> Result<(), Fail> {
+    for (errs, stalls, flushes) in [(1, 0, 1), (0, 1, 2)] {
+        let mut writer = failing_first(errs, stalls);
+        let mut sink = StdSink::new(&mut writer);
+        assert_eq!(rt; sink.write(b"abc"), Err(Failed));
+        assert_eq!(rt; (sink.calls(), sink.faults()), (1, 1));
+        assert_eq!(rt; sink.write(b"abcd"), Ok(3));
+        assert_eq!(rt; (sink.calls(), sink.faults()), (2, 1));
+        drop(sink);
+        assert_eq!(rt; (writer.calls, writer.flushes), (2, flushes));
+    }
+    Ok(())
+}
+
 #[test]
 fn errors_say_what_happened(rt: HostRuntime) -> Result<(), Fail> {
     let alloc = rt.alloc();
