@@ -1,4 +1,5 @@
 mod Values
+mod LegValues
 pub mod Rising
 pub mod Downward
 pub mod Sublists

@@ -10,7 +10,7 @@ use Rattle.tv_laws_series.specs.Terms.{terms, above}
 use Rattle.tv_spec_boxes.specs.Classes.{IsBefore}
 use Rattle.tv_spec_series.specs.Families.{Family, row, coefficient, coefficient_of, find, comes_before}
 use Rattle.tv_spec_katz.specs.Binomials.{choose, binomial, power_sign, power_at, sum_below}
-use Rattle.tv_spec_katz.specs.Places.{place, less_by, unit}
+use Rattle.tv_spec_katz.specs.Places.{difference_by, unit}
 use Rattle.tv_spec_katz.specs.Product.{times, product}
 use Rattle.tv_spec_katz.specs.Katz.{katz}
 use Rattle.tv_spec_katz.specs.Integers.{integers, candidates, Differs, IsCompared, IsMismatch}
@@ -31,7 +31,7 @@ made_up = record {
 
 -- it has no integers
 made_up_integers : integers 1 made_up ≡ []
-unfolding integers candidates comes_before find coefficient at above katz product times unit less_by power_at binomial choose sum_below
+unfolding integers candidates comes_before find coefficient at above katz product times unit difference_by power_at binomial choose sum_below
 made_up_integers = refl
 
 none : (b : Bool) → (if b && false then pos 1 else pos 0) ≡ pos 0
@@ -39,7 +39,7 @@ none true = refl
 none false = refl
 
 abbrev Agrees : ℤ → ℤ → Type 0
-Agrees x n = katz [] (place heights (x ∷ []) n) ≡ coefficient_of wholes made_up (x ∷ []) n
+Agrees x n = katz heights [] (x ∷ []) n ≡ coefficient_of wholes made_up (x ∷ []) n
 
 -- the product is 1 at class zero and exponent 0, and 0 elsewhere
 agrees_below_zero : (x : ℕ) (n : ℤ) → Agrees (negsuc x) n
@@ -92,6 +92,6 @@ made_up_mismatch : IsMismatch 1 (pos 3) made_up [] curve (pos 2)
 made_up_mismatch = record { compared = record { entries = refl; degree = omega (arith, ints); exponent = omega (arith, ints) }; differs = differs; first = first }
 
 -- both values there
-made_up_values : (coefficient_of wholes made_up curve (pos 2) ≡ pos 1) × (katz [] (place heights curve (pos 2)) ≡ pos 0)
+made_up_values : (coefficient_of wholes made_up curve (pos 2) ≡ pos 1) × (katz heights [] curve (pos 2) ≡ pos 0)
 unfolding katz product unit find coefficient at above
 made_up_values = (refl, refl)

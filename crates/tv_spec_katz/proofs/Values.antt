@@ -4,11 +4,11 @@ use Rattle.tv_ring.specs.Sums.{at}
 use Rattle.tv_laws_series.specs.Terms.{terms, above}
 use Rattle.tv_spec_series.specs.Families.{Family, row, coefficient, find, comes_before}
 use Rattle.tv_spec_katz.specs.Binomials.{choose, binomial, power_at, sum_below}
-use Rattle.tv_spec_katz.specs.Places.{place, less_by, unit}
+use Rattle.tv_spec_katz.specs.Places.{difference_by, unit}
 use Rattle.tv_spec_katz.specs.Product.{times, product}
 use Rattle.tv_spec_katz.specs.Katz.{Integer, katz}
 use Rattle.tv_spec_katz.specs.Integers.{integers, candidates}
-use Rattle.tv_spec_katz.specs.Majorant.{majorant, absolute_product, genus_slope}
+use Rattle.tv_spec_katz.specs.Majorant.{majorant, absolute_product, greatest_slope}
 
 -- a binomial with an upper entry below 0, and with one that isn't
 negative_binomials : binomial (negsuc 1) 3 ∷ binomial (negsuc 0) 4 ∷ [] ≡ negsuc 3 ∷ pos 1 ∷ []
@@ -38,16 +38,16 @@ conifold_twice : List ℤ
 conifold_twice = negsuc 1 ∷ pos 2 ∷ negsuc 1 ∷ pos 2 ∷ []
 
 conifold_integer : List Integer
-conifold_integer = record { degree = pos 1; class = conifold_class; genus = 0; value = pos 1 } ∷ []
+conifold_integer = record { class = conifold_class; genus = 0; value = pos 1 } ∷ []
 
 -- the one curve of the conifold: 1, -2, 3, -4, 5 in degree 1
-conifold_first : map (λ n. katz conifold_integer (place conifold_heights conifold_class n)) (pos 0 ∷ pos 1 ∷ pos 2 ∷ pos 3 ∷ pos 4 ∷ pos 5 ∷ []) ≡ pos 0 ∷ pos 1 ∷ negsuc 1 ∷ pos 3 ∷ negsuc 3 ∷ pos 5 ∷ []
-unfolding conifold_heights conifold_class conifold_integer katz product times unit less_by power_at binomial choose sum_below
+conifold_first : map (λ n. katz conifold_heights conifold_integer conifold_class n) (pos 0 ∷ pos 1 ∷ pos 2 ∷ pos 3 ∷ pos 4 ∷ pos 5 ∷ []) ≡ pos 0 ∷ pos 1 ∷ negsuc 1 ∷ pos 3 ∷ negsuc 3 ∷ pos 5 ∷ []
+unfolding conifold_heights conifold_class conifold_integer katz product times unit difference_by power_at binomial choose sum_below
 conifold_first = refl
 
 -- and -2, 4, -10 from exponent 3 in degree 2
-conifold_second : map (λ n. katz conifold_integer (place conifold_heights conifold_twice n)) (pos 1 ∷ pos 2 ∷ pos 3 ∷ pos 4 ∷ pos 5 ∷ []) ≡ pos 0 ∷ pos 0 ∷ negsuc 1 ∷ pos 4 ∷ negsuc 9 ∷ []
-unfolding conifold_heights conifold_class conifold_twice conifold_integer katz product times unit less_by power_at binomial choose sum_below
+conifold_second : map (λ n. katz conifold_heights conifold_integer conifold_twice n) (pos 1 ∷ pos 2 ∷ pos 3 ∷ pos 4 ∷ pos 5 ∷ []) ≡ pos 0 ∷ pos 0 ∷ negsuc 1 ∷ pos 4 ∷ negsuc 9 ∷ []
+unfolding conifold_heights conifold_class conifold_twice conifold_integer katz product times unit difference_by power_at binomial choose sum_below
 conifold_second = refl
 
 conifold_series : Family ℤ
@@ -60,7 +60,7 @@ conifold_series = record {
 
 -- the 1 is read off the series of both classes
 conifold_integers_are : integers 2 conifold_series ≡ conifold_integer
-unfolding conifold_heights conifold_class conifold_twice conifold_integer conifold_series integers candidates comes_before find coefficient at above katz product times unit less_by power_at binomial choose sum_below
+unfolding conifold_heights conifold_class conifold_twice conifold_integer conifold_series integers candidates comes_before find coefficient at above katz product times unit difference_by power_at binomial choose sum_below
 conifold_integers_are = refl
 
 plane_heights : List ℤ
@@ -73,11 +73,11 @@ conic : List ℤ
 conic = negsuc 5 ∷ pos 2 ∷ pos 2 ∷ pos 2 ∷ []
 
 plane_integers : List Integer
-plane_integers = record { degree = pos 2; class = conic; genus = 0; value = negsuc 5 } ∷ record { degree = pos 1; class = line; genus = 0; value = pos 3 } ∷ []
+plane_integers = record { class = conic; genus = 0; value = negsuc 5 } ∷ record { class = line; genus = 0; value = pos 3 } ∷ []
 
 -- lines and conics of local P^2, 3 and -6: -6, 15, -36 in degree 2
-plane_second : map (λ n. katz plane_integers (place plane_heights conic n)) (pos 0 ∷ pos 1 ∷ pos 2 ∷ pos 3 ∷ []) ≡ pos 0 ∷ negsuc 5 ∷ pos 15 ∷ negsuc 35 ∷ []
-unfolding plane_heights line conic plane_integers katz product times unit less_by power_at binomial choose sum_below
+plane_second : map (λ n. katz plane_heights plane_integers conic n) (pos 0 ∷ pos 1 ∷ pos 2 ∷ pos 3 ∷ []) ≡ pos 0 ∷ negsuc 5 ∷ pos 15 ∷ negsuc 35 ∷ []
+unfolding plane_heights line conic plane_integers katz product times unit difference_by power_at binomial choose sum_below
 plane_second = refl
 
 plane_series : Family ℤ
@@ -90,12 +90,12 @@ plane_series = record {
 
 -- they are read off their series
 plane_integers_are : integers 2 plane_series ≡ plane_integers
-unfolding plane_heights line conic plane_integers plane_series integers candidates comes_before find coefficient at above katz product times unit less_by power_at binomial choose sum_below
+unfolding plane_heights line conic plane_integers plane_series integers candidates comes_before find coefficient at above katz product times unit difference_by power_at binomial choose sum_below
 plane_integers_are = refl
 
 -- the majorant of the lines of local P^2 at exponent 1: 3 + 2 * 3
 plane_majorant : majorant 2 (pos 3) plane_series plane_integers line (pos 1) ≡ 9
-unfolding plane_heights line conic plane_integers plane_series majorant absolute_product comes_before find coefficient at above product times unit less_by power_at binomial choose sum_below
+unfolding plane_heights line conic plane_integers plane_series majorant absolute_product comes_before find coefficient at above product times unit difference_by power_at binomial choose sum_below
 plane_majorant = refl
 
 -- a list that is a part of the class has none
@@ -105,18 +105,18 @@ part_majorant = refl
 
 -- one height of 1, so that a class is its degree
 alone : ℕ → ℤ → List Integer
-alone g z = record { degree = pos 1; class = pos 1 ∷ []; genus = g; value = z } ∷ []
+alone g z = record { class = pos 1 ∷ []; genus = g; value = z } ∷ []
 
 alone_at : ℕ → ℤ → ℕ → List ℤ → List ℤ
-alone_at g z d ns = map (λ n. katz (alone g z) (place (pos 1 ∷ []) (pos d ∷ []) n)) ns
+alone_at g z d ns = map (λ n. katz (pos 1 ∷ []) (alone g z) (pos d ∷ []) n) ns
 
 -- an integer of genus 1: -10 in degree 1 at exponent 0, and 45 in degree 2
 elliptic_first : alone_at 1 (negsuc 9) 1 (negsuc 0 ∷ pos 0 ∷ pos 1 ∷ []) ≡ pos 0 ∷ negsuc 9 ∷ pos 0 ∷ []
-unfolding alone alone_at katz product times unit less_by power_at binomial choose sum_below
+unfolding alone alone_at katz product times unit difference_by power_at binomial choose sum_below
 elliptic_first = refl
 
 elliptic_second : alone_at 1 (negsuc 9) 2 (negsuc 0 ∷ pos 0 ∷ pos 1 ∷ []) ≡ pos 0 ∷ pos 45 ∷ pos 0 ∷ []
-unfolding alone alone_at katz product times unit less_by power_at binomial choose sum_below
+unfolding alone alone_at katz product times unit difference_by power_at binomial choose sum_below
 elliptic_second = refl
 
 elliptic_series : Family ℤ
@@ -129,24 +129,24 @@ elliptic_series = record {
 
 -- so the 45 of twice its class is no integer
 elliptic_integers_are : integers 2 elliptic_series ≡ alone 1 (negsuc 9)
-unfolding alone elliptic_series integers candidates comes_before find coefficient at above katz product times unit less_by power_at binomial choose sum_below
+unfolding alone elliptic_series integers candidates comes_before find coefficient at above katz product times unit difference_by power_at binomial choose sum_below
 elliptic_integers_are = refl
 
 -- one of genus 2: 1, 2, 1 around exponent 0 in degree 1, and 2, 4, 2 in degree 2
 genus_two_first : alone_at 2 (pos 1) 1 (negsuc 1 ∷ negsuc 0 ∷ pos 0 ∷ pos 1 ∷ pos 2 ∷ []) ≡ pos 0 ∷ pos 1 ∷ pos 2 ∷ pos 1 ∷ pos 0 ∷ []
-unfolding alone alone_at katz product times unit less_by power_at binomial choose sum_below
+unfolding alone alone_at katz product times unit difference_by power_at binomial choose sum_below
 genus_two_first = refl
 
 genus_two_second : alone_at 2 (pos 1) 2 (negsuc 2 ∷ negsuc 1 ∷ negsuc 0 ∷ pos 0 ∷ pos 1 ∷ pos 2 ∷ []) ≡ pos 0 ∷ pos 0 ∷ pos 2 ∷ pos 4 ∷ pos 2 ∷ pos 0 ∷ []
-unfolding alone alone_at katz product times unit less_by power_at binomial choose sum_below
+unfolding alone alone_at katz product times unit difference_by power_at binomial choose sum_below
 genus_two_second = refl
 
 -- without signs its product is 1, 2, 4, 2, 1 in degree 2
-genus_two_absolute : map (λ n. absolute_product (alone 2 (pos 1)) (place (pos 1 ∷ []) (pos 2 ∷ []) n)) (negsuc 1 ∷ negsuc 0 ∷ pos 0 ∷ pos 1 ∷ pos 2 ∷ []) ≡ pos 1 ∷ pos 2 ∷ pos 4 ∷ pos 2 ∷ pos 1 ∷ []
-unfolding alone absolute_product product times unit less_by power_at binomial choose sum_below
+genus_two_absolute : map (λ n. absolute_product (pos 1 ∷ []) (alone 2 (pos 1)) (pos 2 ∷ []) n) (negsuc 1 ∷ negsuc 0 ∷ pos 0 ∷ pos 1 ∷ pos 2 ∷ []) ≡ pos 1 ∷ pos 2 ∷ pos 4 ∷ pos 2 ∷ pos 1 ∷ []
+unfolding alone absolute_product product times unit difference_by power_at binomial choose sum_below
 genus_two_absolute = refl
 
 -- g - 1 at most c times the degree: 1 for genus 2 in degree 1, and an integer 0 does not count
-slopes : map genus_slope (alone 2 (pos 1) ∷ alone 2 (pos 0) ∷ alone 0 (pos 1) ∷ []) ≡ 1 ∷ 0 ∷ 0 ∷ []
+slopes : map (greatest_slope (pos 1 ∷ [])) (alone 2 (pos 1) ∷ alone 2 (pos 0) ∷ alone 0 (pos 1) ∷ []) ≡ 1 ∷ 0 ∷ 0 ∷ []
 unfolding alone
 slopes = refl

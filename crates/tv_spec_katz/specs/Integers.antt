@@ -5,17 +5,20 @@
 -- insert_class hs v vs == the sorted list with v in it, once
 -- sorted hs vs       == the list in order, each once
 -- is_within D hs v   == the degree is from 1 to D
+-- all_sums D f       == the sums of 1 to D classes of the family that have a degree of at least 1
 -- candidates D f     == the classes of degree 1 to D that are sums of classes of the family, each once, in order
--- lowest_of xs low   == how far the first coefficient other than 0 is below exponent 0; 0 where there is none or it is not
--- series_depth x     == that of the series of the row that was found
+-- depth_from xs low  == how far the first coefficient other than 0 is below exponent 0, where they begin at low; 0 where there
+--                       is none or it is not below
+-- series_depth found == that of the series of the row that was found
 -- genus_depth is     == the greatest of 0 and of g - 1 over the integers
--- slope f v is       == the greatest of 0, of g - 1 over the integers so far, and of minus the lowest exponent of the series
+-- depth f v is       == w: the greatest of 0, of g - 1 over the integers so far, and of minus the lowest exponent of the series
 --                       of v where it isn't zero
--- with_integer v degree g value is == the integers with that one, which is left out where it is 0
--- read_genus f v g is == the integers with n_g(v), which is the coefficient of v at 1 - g less that of Katz's product over
---                       the integers so far; an integer 0 is left out
+-- first_genus f v is == 1 + degree * w, at which reading begins
+-- new_integer f v g is == n_g(v): the coefficient of v at 1 - g less that of Katz's product over the integers so far
+-- with_integer v g value is == the integers with that one, which is left out where it is 0
+-- read_genus f v g is == the integers with n_g(v)
 -- read_down f v g is == the same for the genera g, g - 1, .., 0
--- read_class f is v  == the same for the genera from 1 + degree * slope down
+-- read_class f is v  == the same for the genera from the first one down
 -- read_classes f is vs == the same for the classes, one after another
 -- integers D f       == the integers of the candidates, class by class in order, the last one first
 -- Differs f is v n   == at the class v and the exponent n Katz's product over the integers and the family differ
@@ -31,7 +34,6 @@ use Rattle.tv_spec_plane.specs.Web.{degree_of}
 use Rattle.tv_spec_boxes.specs.Assignments.{zeros, plus, same_vector}
 use Rattle.tv_spec_boxes.specs.Classes.{IsBefore}
 use Rattle.tv_spec_series.specs.Families.{Row, Family, classes, comes_before, coefficient_of, find}
-use Rattle.tv_spec_katz.specs.Places.{place}
 use Rattle.tv_spec_katz.specs.Katz.{Integer, katz}
 
 abbrev pub positive_classes : Family ℤ → List (List ℤ)
@@ -52,37 +54,46 @@ sorted hs (v ∷ vs) = insert_class hs v (sorted hs vs)
 abbrev pub is_within : ℕ → List ℤ → List ℤ → Bool
 is_within D hs v = int_lt (pos 0) (degree_of hs v) && int_le (degree_of hs v) (pos D)
 
-unfoldable pub candidates : ℕ → Family ℤ → List (List ℤ)
-candidates D f = sorted f.heights (filter (is_within D f.heights) (flat_map (λ n. sums n (positive_classes f) f.heights) (range_with_len 1 D)))
+-- a sum of more than D classes has a degree of more than D
+abbrev pub all_sums : ℕ → Family ℤ → List (List ℤ)
+all_sums D f = flat_map (λ n. sums n (positive_classes f) f.heights) (range_with_len 1 D)
 
--- the coefficients from the exponent low on
-abbrev pub lowest_of : List ℤ → ℤ → ℕ
-lowest_of [] low = 0
-lowest_of (x ∷ xs) low = if int_eq x (pos 0) then lowest_of xs (low -ℤ negsuc 0) else natural (pos 0 -ℤ low)
+unfoldable pub candidates : ℕ → Family ℤ → List (List ℤ)
+candidates D f = sorted f.heights (filter (is_within D f.heights) (all_sums D f))
+
+abbrev pub depth_from : List ℤ → ℤ → ℕ
+depth_from [] low = 0
+depth_from (x ∷ xs) low = if int_eq x (pos 0) then depth_from xs (low -ℤ negsuc 0) else natural (pos 0 -ℤ low)
 
 abbrev pub series_depth : Option (Row ℤ) → ℕ
 series_depth None = 0
-series_depth (Some x) = lowest_of x.series.coefficients x.series.low
+series_depth (Some x) = depth_from x.series.coefficients x.series.low
 
 abbrev pub genus_depth : List Integer → ℕ
 genus_depth [] = 0
 genus_depth (i ∷ is) = max (i.genus - 1) (genus_depth is)
 
-abbrev pub slope : Family ℤ → List ℤ → List Integer → ℕ
-slope f v is = max (genus_depth is) (series_depth (find v f.rows))
+abbrev pub depth : Family ℤ → List ℤ → List Integer → ℕ
+depth f v is = max (genus_depth is) (series_depth (find v f.rows))
 
-abbrev pub with_integer : List ℤ → ℤ → ℕ → ℤ → List Integer → List Integer
-with_integer v degree g value is = if int_eq value (pos 0) then is else (record { degree = degree; class = v; genus = g; value = value } ∷ is)
+abbrev pub first_genus : Family ℤ → List ℤ → List Integer → ℕ
+first_genus f v is = 1 + natural (degree_of f.heights v) * depth f v is
+
+abbrev pub new_integer : Family ℤ → List ℤ → ℕ → List Integer → ℤ
+new_integer f v g is = coefficient_of wholes f v (pos 1 -ℤ pos g) -ℤ katz f.heights is v (pos 1 -ℤ pos g)
+
+abbrev pub with_integer : List ℤ → ℕ → ℤ → List Integer → List Integer
+with_integer v g value is = if int_eq value (pos 0) then is else (record { class = v; genus = g; value = value } ∷ is)
 
 abbrev pub read_genus : Family ℤ → List ℤ → ℕ → List Integer → List Integer
-read_genus f v g is = with_integer v (degree_of f.heights v) g (coefficient_of wholes f v (pos 1 -ℤ pos g) -ℤ katz is (place f.heights v (pos 1 -ℤ pos g))) is
+read_genus f v g is = with_integer v g (new_integer f v g is) is
 
 abbrev pub read_down : Family ℤ → List ℤ → ℕ → List Integer → List Integer
 read_down f v zero is = read_genus f v zero is
 read_down f v (suc g) is = read_down f v g (read_genus f v (suc g) is)
 
 abbrev pub read_class : Family ℤ → List Integer → List ℤ → List Integer
-read_class f is v = read_down f v (1 + natural (degree_of f.heights v) * slope f v is) is
+read_class f is v = read_down f v (first_genus f v is) is
 
 abbrev pub read_classes : Family ℤ → List Integer → List (List ℤ) → List Integer
 read_classes f is [] = is
@@ -92,7 +103,7 @@ unfoldable pub integers : ℕ → Family ℤ → List Integer
 integers D f = read_classes f [] (candidates D f)
 
 abbrev pub Differs : Family ℤ → List Integer → List ℤ → ℤ → Type 0
-Differs f is v n = katz is (place f.heights v n) ≢ coefficient_of wholes f v n
+Differs f is v n = katz f.heights is v n ≢ coefficient_of wholes f v n
 
 pub record IsCompared (D : ℕ) (N : ℤ) (f : Family ℤ) (v : List ℤ) (n : ℤ) : Type 0 where
   pub entries : length v ≡ length f.heights

@@ -9,14 +9,14 @@
 use Rattle.std.specs.Prelude.{ℕ, suc, ℤ, ◌*ℤ◌, List, [], ◌∷◌}
 use Rattle.tv_laws_series.specs.Terms.{natural}
 use Rattle.tv_spec_katz.specs.Binomials.{power_at, sum_below}
-use Rattle.tv_spec_katz.specs.Places.{Place, less_by, unit}
+use Rattle.tv_spec_katz.specs.Places.{Place, difference_by, unit}
 
 pub record Factor : Type 0 where
   pub at : Place
   pub power : ℤ
 
 unfoldable pub times : ℕ → Factor → (Place → ℤ) → Place → ℤ
-times most f rest p = sum_below (λ k. power_at f.power k *ℤ rest (less_by k p f.at)) (suc most)
+times most f rest p = sum_below (λ k. power_at f.power k *ℤ rest (difference_by k p f.at)) (suc most)
 
 -- a place of positive degree is taken off at most as often as the degree says
 unfoldable pub product : List Factor → Place → ℤ
