@@ -11,11 +11,12 @@ use Rattle.tv_ring.specs.Integers.{unsigned_abs-+ℤ}
 use Rattle.tv_ring.specs.Sums.{whole_times}
 use Rattle.tv_ring.proofs.Times.{times-none, times-one, whole_times-pos}
 use Rattle.tv_lemmas.proofs.Members.{all-onto, all-filter, all-members}
+use Rattle.tv_lemmas.specs.Naturals.{as_natural}
 use Rattle.tv_spec_plane.specs.declared.records.CompactEdge.{CompactEdge}
 use Rattle.tv_spec_plane.specs.Web.{Web, compact, class_entry, edge_class, edge_degree, degree_of}
 use Rattle.tv_spec_plane.specs.Graded.{HasDegree, IsGraded}
 use Rattle.tv_partition.specs.Rows.{size}
-use Rattle.tv_spec_boxes.specs.Assignments.{Assignment, no_legs, zeros, plus, times, class_on, class_of, weight, assignments, same_vector, assignments_of}
+use Rattle.tv_spec_boxes.specs.Assignments.{Assignment, no_legs, zeros, plus, times, class_on, class_of, assignments, same_vector, assignments_of}
 use Rattle.tv_spec_boxes.specs.Classes.{IsClass}
 use Rattle.tv_laws_counts.proofs.Choices.{degree_by}
 use Rattle.tv_laws_counts.proofs.Degrees.{weights, weights_positive, class_of-degree, assignments_by_degree}
@@ -69,7 +70,7 @@ class_on-none w [] a graded e = refl
 class_on-none w (edge ∷ es) [] graded e = refl
 class_on-none w (edge ∷ es) (rows ∷ a) graded e =
     let up = (weights_positive w (edge ∷ es) graded).0 in
-    let none : size rows ≡ 0 = none_each (size rows) (weight (edge_degree w edge)) (degree_by (weights w es) a) up e in
+    let none : size rows ≡ 0 = none_each (size rows) (as_natural (edge_degree w edge)) (degree_by (weights w es) a) up e in
     let rest : degree_by (weights w es) a ≡ 0 = omega arith in
     rw (none, times-nought (edge_class w edge), length-map-range_with_len (class_entry w edge) 0 (length w.points), class_on-none w es a graded.1 rest) (plus-zeros (length w.points))
 
@@ -110,7 +111,7 @@ class_on-entries : (w : Web) (b : ℕ) (es : List CompactEdge) (a : Assignment) 
 class_on-entries w b [] a graded all = at_most-zeros (b * 0) (length w.points)
 class_on-entries w b (e ∷ es) [] graded all = at_most-zeros (b * 0) (length w.points)
 class_on-entries w b (e ∷ es) (rows ∷ a) graded all =
-    let g = weight (edge_degree w e) in
+    let g = as_natural (edge_degree w e) in
     let up = (weights_positive w (e ∷ es) graded).0 in
     let split : b * (size rows * g + degree_by (weights w es) a) ≡ b * (size rows * g) + b * degree_by (weights w es) a = mul-add b (size rows * g) (degree_by (weights w es) a) in
     rw split (at_most-plus (b * (size rows * g)) (b * degree_by (weights w es) a) (times (size rows) (edge_class w e)) (class_on w es a) (at_most-times b (size rows) g (edge_class w e) up all.0) (class_on-entries w b es a graded.1 all.1))
