@@ -6,3 +6,4 @@ pub mod Rows
 pub mod Members
 pub mod Sums
 pub mod Divided
+pub mod Products
