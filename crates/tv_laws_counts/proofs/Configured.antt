@@ -160,14 +160,13 @@ of_class w v a graded one_each diagrams class =
     (choice_listed (degrees w) (weights_positive w (compact w) graded) m a (record { one_each = one_each ∙ sym (length-map (compact w) (λ e. as_natural (edge_degree w e))); diagrams = diagrams; within = omega arith }))
     (rw class (same_vector-same v))
 
-left : (costs chi : ℤ) (boxes overlaps : ℕ) (n : ℤ) → (costs +ℤ pos boxes) -ℤ pos overlaps ≡ n → (n -ℤ costs) +ℤ pos overlaps ≡ pos boxes
-left costs chi boxes overlaps n e = omega (arith, ints)
+left : (costs : ℤ) (boxes overlaps : ℕ) (n : ℤ) → (costs +ℤ pos boxes) -ℤ pos overlaps ≡ n → (n -ℤ costs) +ℤ pos overlaps ≡ pos boxes
+left costs boxes overlaps n e = omega (arith, ints)
 
 listed : (w : Web) (fixed : List Rows) (v : List ℤ) (n : ℤ) (c : Configuration) → IsGraded w → AllByRecursion IsDiagram fixed → IsConfiguration w fixed v n c → Contains (configurations w fixed v n) c
 listed w fixed v n c graded also is =
-    let a = c.diagrams in
     let legs = all_legs w c.diagrams fixed in
-    let boxes : boxes_left w fixed c.diagrams n ≡ pos (boxes_of c.extras) = left (edge_costs w c.diagrams) n (boxes_of c.extras) (overlaps_of (all_legs w c.diagrams fixed)) n is.chi in
+    let boxes : boxes_left w fixed c.diagrams n ≡ pos (boxes_of c.extras) = left (edge_costs w c.diagrams) (boxes_of c.extras) (overlaps_of (all_legs w c.diagrams fixed)) n is.chi in
     let filled : Contains (fillings_of legs (boxes_left w fixed c.diagrams n)) c.extras = rw boxes (filling_listed legs (legs_are w c.diagrams fixed is.diagrams also) c.extras is.extras (boxes_of c.extras) (boxes_of c.extras) refl (omega arith)) in
     contains-flat_map (λ b. configurations_on w fixed b n) c.diagrams c (assignments_of w v) (of_class w v c.diagrams graded is.one_each is.diagrams is.class)
     (contains-map (configuration c.diagrams) c.extras (fillings_of legs (boxes_left w fixed c.diagrams n)) filled)
