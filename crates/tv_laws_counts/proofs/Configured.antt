@@ -1,5 +1,5 @@
 -- The list of configurations has exactly those that the relation says, each once.
-use Rattle.std.specs.Prelude.{◌≡◌, Contains, ℕ, zero, suc, ◌+◌, ◌-◌, ◌≤◌, ◌<◌, Bool, true, false, cond, ◌&&◌, nat_eq, nat_lt, ℤ, pos, negsuc, ◌+ℤ◌, ◌-ℤ◌, List, [], ◌∷◌, map, filter, length}
+use Rattle.std.specs.Prelude.{◌≡◌, Contains, ℕ, suc, ◌+◌, ◌-◌, ◌≤◌, Bool, true, false, cond, ◌&&◌, nat_eq, nat_lt, ℤ, pos, negsuc, ◌+ℤ◌, ◌-ℤ◌, List, [], ◌∷◌, map, length}
 use Rattle.std.specs.List.{flat_map, AllByRecursion, IsDistinct, list_any}
 use Rattle.std.specs.Cmp.Lexicographic.{pointwise}
 use Rattle.std.proofs.Common.{refl, sym, ap, ◌∙◌, arith}
@@ -8,21 +8,20 @@ use Rattle.std.proofs.lemmas.Bool.{and_left, and_right}
 use Rattle.std.proofs.lemmas.Bool.Decides.{nat_tests}
 use Rattle.std.proofs.lemmas.List.{length-map}
 use Rattle.tv_lemmas.specs.Naturals.{as_natural}
-use Rattle.tv_lemmas.proofs.Members.{all-any, all-map, all-flat_map, all-filter, all-onto, all-both, all-contains, contains-head, contains-filter, contains-map, contains-flat_map, contains-range}
+use Rattle.tv_lemmas.proofs.Members.{all-any, all-map, all-flat_map, all-filter, all-both, all-contains, contains-head, contains-filter, contains-map, contains-flat_map, contains-range}
 use Rattle.tv_lemmas.proofs.Distinct.{distinct-map, distinct-filter, distinct-flat_map, distinct-range, distinct-ahead, pointwise-tells}
 use Rattle.tv_spec_plane.specs.Web.{Web, compact, below, edge_degree, degree_of}
 use Rattle.tv_spec_plane.specs.Graded.{IsGraded}
 use Rattle.tv_partition.specs.Rows.{IsDiagram}
-use Rattle.tv_partition.proofs.Members.{same_lists}
 use Rattle.tv_cells.specs.declared.cell.Cell.{Cell}
 use Rattle.tv_cells.specs.declared.legs.Legs.{Legs}
 use Rattle.tv_cells.specs.Cells.{same, rises, cube, sublists_of}
-use Rattle.tv_cells.specs.Extras.{is_extras, IsExtras, AreDiagrams, extent}
+use Rattle.tv_cells.specs.Extras.{is_extras, AreDiagrams, extent}
 use Rattle.tv_cells.proofs.Rising.{same_itself}
 use Rattle.tv_cells.proofs.Cubes.{cube-rises, cube-has}
 use Rattle.tv_cells.proofs.Downward.{test_is_relation}
 use Rattle.tv_spec_boxes.specs.Assignments.{Rows, Assignment, all_legs, class_of, edge_costs, overlaps_of, choices, assignments, assignments_of, same_vector}
-use Rattle.tv_spec_boxes.specs.Configurations.{Configuration, configuration, extras_of, fillings, fillings_of, boxes_left, boxes_of, chi_of, configurations_on, configurations}
+use Rattle.tv_spec_boxes.specs.Configurations.{Configuration, configuration, extras_of, fillings, fillings_of, boxes_left, boxes_of, configurations_on, configurations}
 use Rattle.tv_spec_boxes.specs.Relations.{AreExtras, AreAtCorners, IsConfiguration}
 use Rattle.tv_spec_boxes.proofs.Sublists.{sublists_of-length}
 use Rattle.tv_spec_boxes.proofs.Vectors.{same_vector-same}
