@@ -20,7 +20,7 @@ use Rattle.tv_laws_series.proofs.Quotients.{quotient, quotient-convolution, only
 use Rattle.tv_laws_series.proofs.SeriesQuotients.{value_series_quotient, quotient-product}
 use Rattle.tv_spec_series.specs.Families.{coefficient}
 use Rattle.tv_spec_series.specs.Reduced.{from, product_at, IsQuotient}
-use Rattle.tv_spec_series.proofs.Coefficients.{coefficient_below, coefficient_at, coefficient-cut, coefficient-product, upto-cut, value_coefficient}
+use Rattle.tv_laws_series.proofs.Coefficients.{coefficient_below, coefficient_at, coefficient-cut, coefficient-product, upto-cut, value_coefficient}
 use Rattle.tv_laws_families.proofs.Products.{multiples, convolution-multiples, product-below, product-at}
 
 -- what is known of dividend and divisor

@@ -12,7 +12,7 @@
 -- quotient_size z g f low m == |z at m| plus the sum over j from 1 on of |g at j| times |f at m - j|, f being 0 below low
 -- IsSpread w fixed n v m k == for m at most n, k is that number at m of the reduced series of v through n. It asks nothing of
 --                         the degree of v
-use Rattle.std.specs.Prelude.{◌≡◌, ℕ, suc, ◌+◌, ◌-◌, ◌*◌, ℤ, pos, ◌+ℤ◌, ◌-ℤ◌, ◌≤ℤ◌, ◌<ℤ◌, unsigned_abs, int_lt, List, length, if◌then◌else◌}
+use Rattle.std.specs.Prelude.{◌≡◌, ℕ, suc, ◌+◌, ◌*◌, ℤ, pos, ◌+ℤ◌, ◌-ℤ◌, ◌≤ℤ◌, ◌<ℤ◌, unsigned_abs, int_lt, List, length, if◌then◌else◌}
 use Rattle.tv_ring.specs.Whole.{wholes}
 use Rattle.tv_ring.specs.Sums.{convolution, total_below}
 use Rattle.tv_laws_series.specs.Terms.{above}

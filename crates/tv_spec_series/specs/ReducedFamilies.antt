@@ -5,7 +5,7 @@
 -- IsReducedFamily r w fixed d n f == a family of the web to degree d and through n, each row of which is reduced
 -- IsDivisor r w fixed b == b begins with one at exponent 0, and its coefficients as far as it is known are those of class zero,
 --                          times one
-use Rattle.std.specs.Prelude.{◌≡◌, ℕ, ℤ, pos, ◌≤ℤ◌, List}
+use Rattle.std.specs.Prelude.{◌≡◌, ℕ, ℤ, ◌≤ℤ◌, List}
 use Rattle.tv_ring.specs.Operations.{Operations}
 use Rattle.tv_ring.specs.Sums.{whole_times}
 use Rattle.tv_laws_series.specs.Terms.{Terms, upto}
