@@ -21,7 +21,7 @@ use Rattle.tv_laws_series.proofs.SeriesQuotients.{value_series_quotient, quotien
 use Rattle.tv_spec_series.specs.Families.{coefficient}
 use Rattle.tv_spec_series.specs.Reduced.{product_at, IsQuotient}
 use Rattle.tv_spec_series.proofs.Products.{from, product-below, product-at}
-use Rattle.tv_spec_series.proofs.Coefficients.{coefficient_below, coefficient_at, coefficient-cut, coefficient-product, upto-cut, value_coefficient}
+use Rattle.tv_laws_series.proofs.Coefficients.{coefficient_below, coefficient_at, coefficient-cut, coefficient-product, upto-cut, value_coefficient}
 use Rattle.tv_laws_families.proofs.Products.{multiples, convolution-multiples}
 
 -- what is known of dividend and divisor

@@ -1,7 +1,6 @@
 mod Values
 mod ReducedValues
 pub mod Order
-pub mod Coefficients
 pub mod Rows
 pub mod Members
 pub mod Sums

@@ -14,7 +14,7 @@
 --                         being 0 below low: what is added up in a division by g, which begins at first, to get f at m
 -- IsSpread w fixed n v m k == for m at most n, k is that number at m of the reduced series of v through n. It asks nothing of
 --                         the degree of v
-use Rattle.std.specs.Prelude.{◌≡◌, ◌≢◌, ℕ, suc, ◌+◌, ◌-◌, ◌*◌, ℤ, pos, ◌+ℤ◌, ◌-ℤ◌, ◌≤ℤ◌, ◌*ℤ◌, ◌<ℤ◌, unsigned_abs, List, length}
+use Rattle.std.specs.Prelude.{◌≡◌, ◌≢◌, ℕ, suc, ◌+◌, ◌*◌, ℤ, pos, ◌+ℤ◌, ◌-ℤ◌, ◌≤ℤ◌, ◌*ℤ◌, ◌<ℤ◌, unsigned_abs, List, length}
 use Rattle.tv_lemmas.specs.Naturals.{as_natural}
 use Rattle.tv_lemmas.specs.Sums.{total, sum_of}
 use Rattle.tv_spec_plane.specs.Web.{Web, below}
