@@ -3,10 +3,10 @@ use Rattle.std.specs.Prelude.{◌≡◌, ℕ, zero, suc, ℤ, pos, negsuc, ◌+�
 use Rattle.std.proofs.Common.{ap, sym, ◌∙◌, arith, inl, inr}
 use Rattle.std.proofs.lemmas.Int.{ints}
 use Rattle.tv_spec_plane.specs.Plane.{Point, at, turn, IsBetween}
-use Rattle.tv_lemmas.proofs.Integers.{diff_of, diff-pos, diff-same, diffs}
+use Rattle.tv_lemmas.proofs.Integers.{diff_of, diff-pos, diff-same, diffs, neg-mul}
 use Rattle.tv_lemmas.proofs.Signs.{sign, mul-pos-pos, mul-pos-neg, mul-neg-neg, mul-neg-pos, mul-nonneg-nonneg}
 use Rattle.tv_laws_tiling.proofs.Rotations.{turn-rotate, turn-exchange}
-use Rattle.tv_hull.proofs.Rises.{rise, toward, toward-back, toward-add}
+use Rattle.tv_hull.proofs.Rises.{rise, toward, toward-back, toward-add, toward-down}
 
 -- k to a times k to b
 unfoldable pub dot : Point → Point → Point → ℤ
@@ -17,19 +17,12 @@ along_at ux uy vx vy =
     let r = diff_of ux in let s = diff_of uy in let t = diff_of vx in let u = diff_of vy in
     rw (r.2, s.2, t.2, u.2, diff-pos 201) (simp diffs (diff-same _ _ _ _ (omega arith)))
 
-neg-mul : (a b : ℤ) → neg_ℤ a *ℤ b ≡ neg_ℤ (a *ℤ b)
-neg-mul a b = let r = diff_of a in let s = diff_of b in rw (r.2, s.2) (simp diffs (diff-same _ _ _ _ (omega arith)))
-
 without : (a t b : ℤ) → t ≡ pos 0 → a +ℤ (t *ℤ b) ≡ a
 without a t b e = rw e (omega (arith, ints))
 
 along_rise : (k a b : Point) → turn k a b ≡ pos 0 → rise k a *ℤ dot k b b ≡ rise k b *ℤ dot k a b
 unfolding rise turn dot
 along_rise k a b e = along_at (a.x -ℤ k.x) (a.y -ℤ k.y) (b.x -ℤ k.x) (b.y -ℤ k.y) ∙ without _ _ _ e
-
-toward-down : (p q : Point) → toward true p q ≡ neg_ℤ (rise p q)
-unfolding toward rise
-toward-down p q = omega (arith, ints)
 
 -- on a line the ways from k to a and to b are as a multiple of one vector
 along : (down : Bool) (k a b : Point) → turn k a b ≡ pos 0 → toward down k a *ℤ dot k b b ≡ toward down k b *ℤ dot k a b

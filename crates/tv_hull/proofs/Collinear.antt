@@ -6,8 +6,9 @@ use Rattle.std.proofs.lemmas.Int.{ints}
 use Rattle.tv_lattice.specs.Limits.{HasCoordinates}
 use Rattle.tv_spec_plane.specs.Plane.{Point, at, turn}
 use Rattle.tv_lemmas.proofs.Signs.{factor-zero}
-use Rattle.tv_hull.specs.Points.{AreDistinct, IsFlat}
-use Rattle.tv_laws_tiling.proofs.Rotations.{turn-exchange, turn-first, turn-rotate}
+use Rattle.tv_laws_tiling.specs.Points.{AreDistinct, IsFlat}
+use Rattle.tv_laws_tiling.proofs.Rotations.{turn-exchange, turn-first}
+use Rattle.tv_laws_tiling.proofs.Turns.{turn-last}
 use Rattle.tv_hull.proofs.Rises.{toward, by_toward, turn-from}
 use Rattle.tv_hull.proofs.Compare.{small-at, toward-level}
 
@@ -46,9 +47,6 @@ flat-line ps small distinct line = elim (few_or_many (length ps)) [
   | inl few ↦ flat-few ps few
   | inr many ↦ flat-many ps small distinct many line
 ]
-
-turn-last : (p q : Point) → turn p q p ≡ pos 0
-turn-last p q = turn-rotate p p q ∙ turn-first p q
 
 turn-outside : (ps : List Point) (k : ℕ) → length ps ≤ 1 → k < length ps → turn (at ps 0) (at ps 1) (at ps k) ≡ pos 0
 turn-outside ps k few h = rw (lone (length ps) k few h) (turn-last (at ps 0) (at ps 1))

@@ -52,7 +52,7 @@ neg_sum a b c s t u e =
     rw (i.2, j.2, k.2, v.2, w.2, x.2) (simp diffs (diff-same _ _ _ _ (omega arith)))) in
     opposite ∙ ap neg_ℤ e
 
-toward-down : (p q : Point) → toward true p q ≡ neg_ℤ (rise p q)
+pub toward-down : (p q : Point) → toward true p q ≡ neg_ℤ (rise p q)
 unfolding toward rise
 toward-down p q = omega (arith, ints)
 

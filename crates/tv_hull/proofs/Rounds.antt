@@ -9,7 +9,7 @@ use Rattle.tv_laws_tiling.specs.Members.{Among, Once}
 use Rattle.tv_laws_tiling.proofs.Members.{among-append, append-among_left, append-among_right, once-append}
 use Rattle.tv_laws_tiling.specs.Hull.{IsLeast, IsClimb, IsDescent, IsRound, IsHull}
 use Rattle.tv_lemmas.proofs.Signs.{sign}
-use Rattle.tv_hull.specs.Points.{AreDistinct}
+use Rattle.tv_laws_tiling.specs.Points.{AreDistinct}
 use Rattle.tv_hull.specs.Ways.{IsEnd, IsStart, IsWay, IsRun}
 use Rattle.tv_laws_tiling.proofs.Rotations.{turn-exchange}
 use Rattle.tv_hull.proofs.Rises.{toward, toward-back, toward-add, toward-same, toward-opposite}

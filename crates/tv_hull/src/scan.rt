@@ -10,6 +10,7 @@ ghost use Rattle.tv_hull.specs.Ways.{IsAhead, IsKept, IsBest, IsBestOf};
 use crate::order::{is_ahead, is_less};
 use tv_lattice::point::{Point, at};
 use tv_lattice::turn::turn;
+use tv_spec_plane::limits::MOST_POINTS;
 
 /// Whether c is no better a next point than b, seen from p.
 pub fn is_kept(down: bool, p: Point, b: Point, c: Point) -> bool
@@ -22,7 +23,7 @@ pub fn is_kept(down: bool, p: Point, b: Point, c: Point) -> bool
 /// The best next point after p, if any is ahead.
 pub fn next_point(points: &[Point], down: bool, p: u32) -> Option<u32>
     requires small { AllByRecursion HasCoordinates points.now }
-    requires count { length points.now ≤ 64 }
+    requires count { length points.now ≤ MOST_POINTS }
     ensures { IsBestOf points.now down p (length points.now) result }
 {
     let n = points.len() as u32;
@@ -64,7 +65,7 @@ fn better_of(points: &[Point], down: bool, p: u32, b: u32, k: u32) -> Option<u32
 /// The least point by x, then y.
 pub fn least_point(points: &[Point]) -> u32
     requires some { 0 < length points.now }
-    requires count { length points.now ≤ 64 }
+    requires count { length points.now ≤ MOST_POINTS }
     ensures { IsLeast points.now result }
 {
     let n = points.len() as u32;

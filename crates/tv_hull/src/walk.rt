@@ -3,12 +3,13 @@
 ghost use Rattle.std.specs.Prelude.{◌≤◌, length, IfOk};
 ghost use Rattle.std.specs.List.{AllByRecursion};
 ghost use Rattle.tv_lattice.specs.Limits.{HasCoordinates};
-ghost use Rattle.tv_hull.specs.Points.{AreDistinct};
+ghost use Rattle.tv_laws_tiling.specs.Points.{AreDistinct};
 ghost use Rattle.tv_hull.specs.Ways.{IsStart, IsRun};
 
 use crate::scan::next_point;
 use std::alloc::{AllocError, Global};
 use tv_lattice::point::Point;
+use tv_spec_plane::limits::MOST_POINTS;
 
 /// The segments of a way and the point that it ends at.
 #[derive(Drop)]
@@ -21,7 +22,7 @@ pub struct Way {
 pub fn walk(alloc: Global, points: &[Point], down: bool, start: u32) -> Result<Way, AllocError>
     requires small { AllByRecursion HasCoordinates points.now }
     requires distinct { AreDistinct points.now }
-    requires count { length points.now ≤ 64 }
+    requires count { length points.now ≤ MOST_POINTS }
     requires first { IsStart points.now down start }
     ensures { IfOk result (λ w. IsRun points.now down start w.segments.items w.end) }
 {
