@@ -9,6 +9,7 @@ mod graded;
 mod kept;
 pub mod laws;
 mod order;
+mod rows;
 
 pub use entry::Entry;
 pub use fault::GradedFault;

@@ -5,3 +5,4 @@ pub mod Rows
 pub mod Members
 pub mod Sums
 pub mod Divided
+pub mod Cut
