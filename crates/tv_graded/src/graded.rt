@@ -1,6 +1,6 @@
 //! A family of series by class: its rows are sorted by degree, then by entries. It does not know which classes a web has.
 
-ghost use Rattle.std.specs.Prelude.{◌≡◌, ◌≤◌, ◌↔◌, ◌≤ℤ◌, pos, length, Some, None, IsNone, IfSome, IfErr, OnOk, OnErr, IfOk, MatchOption, slice_get};
+ghost use Rattle.std.specs.Prelude.{◌≡◌, ◌≤◌, ◌↔◌, ◌≤ℤ◌, pos, length, Some, None, IsNone, IfSome, IfErr, OnOk, OnErr, IfOk, MatchOption, slice_get, map};
 ghost use Rattle.std.specs.List.{AllByRecursion};
 ghost use Rattle.tv_laws_series.specs.Terms.{upto, IsWithin};
 ghost use Rattle.tv_laws_series.specs.Quotients.{quotient_upto, IsUnitSeries};
@@ -9,9 +9,11 @@ ghost use Rattle.tv_laurent.specs.QuotientCalls.{QuotientReaches};
 ghost use Rattle.tv_lattice.specs.Limits.{IsHeight};
 ghost use Rattle.tv_spec_plane.specs.Web.{degree_of};
 ghost use Rattle.tv_spec_series.specs.Families.{row, find, added, divided, cut, without_rows, HasPlace, IsFamily};
+ghost use Rattle.tv_graded.specs.Listing.{with_degree};
 ghost use Rattle.tv_graded.specs.Calls.{IsAddedWide, OnWideClass, IsDividedWide};
 
 use crate::divided::divided_rows;
+use crate::entries::Entries;
 use crate::entry::Entry;
 use crate::fault::GradedFault;
 use crate::kept::Kept;
@@ -37,6 +39,7 @@ pub struct Graded<C: Ring> {
 
 impl<C: Ring> Model for Graded<C> {
     ghost use Rattle.tv_spec_series.specs.Families.{Family};
+    ghost use Rattle.tv_graded.specs.Listing.{with_degree};
     ghost use Rattle.tv_graded.specs.Calls.{IsHeld};
 
     ghost Value = { Family C };
@@ -105,6 +108,13 @@ impl<C: Ring> Graded<C> {
             }),
             None => None,
         }
+    }
+
+    /// Each class once, in order, with its degree and its series.
+    pub fn iter(&self) -> Entries<'_, C>
+        ensures value { result ≡ map (with_degree self.now.heights) self.now.rows }
+    {
+        Entries::new(&self.heights, &self.rows)
     }
 
     /// The series of a class.

@@ -3,6 +3,7 @@
 #![tactic(auto)]
 
 mod divided;
+mod entries;
 mod entry;
 mod fault;
 mod graded;
@@ -11,6 +12,7 @@ pub mod laws;
 mod order;
 mod rows;
 
+pub use entries::Entries;
 pub use entry::Entry;
 pub use fault::GradedFault;
 pub use graded::Graded;

@@ -127,6 +127,11 @@ fn sorts_by_degree_then_by_entries(rt: HostRuntime) -> Result<(), Fail> {
     assert!(rt; shows(&family, 1, &[1, 0], 1, 1));
     assert!(rt; shows(&family, 2, &[0, 2], 2, 1));
     assert!(rt; shows(&family, 3, &[1, 1], 2, 1));
+    let mut degrees = Vec::new(rt.alloc());
+    for entry in family.iter() {
+        degrees.push(entry.degree)?;
+    }
+    assert!(rt; degrees.as_slice() == [1, 1, 2, 2].as_slice());
     Ok(())
 }
 
