@@ -6,3 +6,4 @@ pub mod Members
 pub mod Sums
 pub mod Divided
 pub mod Products
+pub mod Cut
