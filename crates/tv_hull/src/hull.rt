@@ -9,6 +9,7 @@ ghost use Rattle.tv_hull.specs.Faults.{IsFault};
 
 use crate::fault::LatticeFault;
 use crate::flat::is_flat;
+use crate::order::Heading;
 use crate::repeat::first_repeat;
 use crate::scan::least_point;
 use crate::walk::walk;
@@ -40,8 +41,8 @@ fn around(alloc: Global, points: &[Point]) -> Result<Vec<(u32, u32)>, AllocError
     requires count { length points.now ≤ MOST_POINTS }
     ensures { IfOk result (λ s. IsHull points.now s.items) }
 {
-    let up = walk(alloc, points, false, least_point(points))?;
-    let back = walk(alloc, points, true, up.end)?;
+    let up = walk(alloc, points, Heading::Up, least_point(points))?;
+    let back = walk(alloc, points, Heading::Down, up.end)?;
     let mut segments = up.segments;
     segments.extend_from_slice(&back.segments)?;
     Ok(segments)

@@ -6,6 +6,7 @@ ghost use Rattle.tv_lattice.specs.Limits.{HasCoordinates};
 ghost use Rattle.tv_laws_tiling.specs.Points.{AreDistinct};
 ghost use Rattle.tv_hull.specs.Ways.{IsStart, IsRun};
 
+use crate::order::Heading;
 use crate::scan::next_point;
 use std::alloc::{AllocError, Global};
 use tv_lattice::point::Point;
@@ -19,16 +20,21 @@ pub struct Way {
 }
 
 /// The way up or down from a point that is the first on it.
-pub fn walk(alloc: Global, points: &[Point], down: bool, start: u32) -> Result<Way, AllocError>
+pub fn walk(
+    alloc: Global,
+    points: &[Point],
+    heading: Heading,
+    start: u32,
+) -> Result<Way, AllocError>
     requires small { AllByRecursion HasCoordinates points.now }
     requires distinct { AreDistinct points.now }
     requires count { length points.now ≤ MOST_POINTS }
-    requires first { IsStart points.now down start }
-    ensures { IfOk result (λ w. IsRun points.now down start w.segments.items w.end) }
+    requires first { IsStart points.now heading start }
+    ensures { IfOk result (λ w. IsRun points.now heading start w.segments.items w.end) }
 {
     let mut segments = Vec::new(alloc);
     let mut here = start;
-    while let Some(next) = next_point(points, down, here) {
+    while let Some(next) = next_point(points, heading, here) {
         segments.push((here, next))?;
         here = next;
     }
