@@ -1,3 +1,4 @@
 mod Values
 mod LegValues
 mod ShapeValues
+mod PathValues
