@@ -1,5 +1,5 @@
 -- The list of assignments has exactly those that the relation says, each once.
-use Rattle.std.specs.Prelude.{◌≡◌, Contains, ℕ, zero, suc, ◌+◌, ◌-◌, ◌*◌, ◌≤◌, ◌<◌, Bool, true, nat_eq, nat_le, ℤ, pos, ◌+ℤ◌, ◌*ℤ◌, List, [], ◌∷◌, map, filter, length}
+use Rattle.std.specs.Prelude.{◌≡◌, Contains, ℕ, suc, ◌+◌, ◌-◌, ◌*◌, ◌≤◌, ◌<◌, Bool, true, nat_eq, nat_le, pos, ◌*ℤ◌, List, [], ◌∷◌, map, filter}
 use Rattle.std.specs.List.{flat_map, AllByRecursion, IsDistinct}
 use Rattle.std.specs.Cmp.Lexicographic.{pointwise}
 use Rattle.std.proofs.Common.{refl, sym, ap, ◌∙◌, arith}
@@ -13,7 +13,7 @@ use Rattle.tv_lemmas.proofs.Distinct.{distinct-filter, distinct-range, distinct-
 use Rattle.tv_spec_plane.specs.declared.records.CompactEdge.{CompactEdge}
 use Rattle.tv_spec_plane.specs.Web.{Web, compact, below, edge_degree}
 use Rattle.tv_spec_plane.specs.Graded.{HasDegree, IsGraded}
-use Rattle.tv_partition.specs.Rows.{IsDiagram, size, diagrams}
+use Rattle.tv_partition.specs.Rows.{size, diagrams}
 use Rattle.tv_partition.proofs.Members.{diagrams-are-all, same_lists}
 use Rattle.tv_partition.proofs.Descending.{diagrams-once}
 use Rattle.tv_spec_boxes.specs.Assignments.{Rows, Assignment, sum_on, choices, assignments}

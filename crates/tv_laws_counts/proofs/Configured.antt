@@ -1,5 +1,5 @@
 -- The list of configurations has exactly those that the relation says, each once.
-use Rattle.std.specs.Prelude.{◌≡◌, Contains, ℕ, zero, suc, ◌+◌, ◌-◌, ◌≤◌, ◌<◌, Bool, true, false, cond, ◌&&◌, nat_eq, nat_lt, ℤ, pos, negsuc, ◌+ℤ◌, ◌-ℤ◌, List, [], ◌∷◌, map, filter, length}
+use Rattle.std.specs.Prelude.{◌≡◌, Contains, ℕ, suc, ◌+◌, ◌-◌, ◌≤◌, Bool, true, false, cond, ◌&&◌, nat_eq, nat_lt, ℤ, pos, negsuc, ◌+ℤ◌, ◌-ℤ◌, List, [], ◌∷◌, map, length}
 use Rattle.std.specs.List.{flat_map, AllByRecursion, IsDistinct, list_any}
 use Rattle.std.specs.Cmp.Lexicographic.{pointwise}
 use Rattle.std.proofs.Common.{refl, sym, ap, ◌∙◌, arith}
@@ -8,21 +8,20 @@ use Rattle.std.proofs.lemmas.Bool.{and_left, and_right}
 use Rattle.std.proofs.lemmas.Bool.Decides.{nat_tests}
 use Rattle.std.proofs.lemmas.List.{length-map}
 use Rattle.tv_lemmas.specs.Naturals.{as_natural}
-use Rattle.tv_lemmas.proofs.Members.{all-any, all-map, all-flat_map, all-filter, all-onto, all-both, all-contains, contains-head, contains-filter, contains-map, contains-flat_map, contains-range}
+use Rattle.tv_lemmas.proofs.Members.{all-any, all-map, all-flat_map, all-filter, all-both, all-contains, contains-head, contains-filter, contains-map, contains-flat_map, contains-range}
 use Rattle.tv_lemmas.proofs.Distinct.{distinct-map, distinct-filter, distinct-flat_map, distinct-range, distinct-ahead, pointwise-tells}
 use Rattle.tv_spec_plane.specs.Web.{Web, compact, below, edge_degree, degree_of}
 use Rattle.tv_spec_plane.specs.Graded.{IsGraded}
 use Rattle.tv_partition.specs.Rows.{IsDiagram}
-use Rattle.tv_partition.proofs.Members.{same_lists}
 use Rattle.tv_cells.specs.declared.cell.Cell.{Cell}
 use Rattle.tv_cells.specs.declared.legs.Legs.{Legs}
 use Rattle.tv_cells.specs.Cells.{same, rises, cube, sublists_of}
-use Rattle.tv_cells.specs.Extras.{is_extras, IsExtras, AreDiagrams, extent}
+use Rattle.tv_cells.specs.Extras.{is_extras, AreDiagrams, extent}
 use Rattle.tv_cells.proofs.Rising.{same_itself}
 use Rattle.tv_cells.proofs.Cubes.{cube-rises, cube-has}
 use Rattle.tv_cells.proofs.Downward.{test_is_relation}
 use Rattle.tv_spec_boxes.specs.Assignments.{Rows, Assignment, all_legs, class_of, edge_costs, overlaps_of, choices, assignments, assignments_of, same_vector}
-use Rattle.tv_spec_boxes.specs.Configurations.{Configuration, configuration, extras_of, fillings, fillings_of, boxes_left, boxes_of, chi_of, configurations_on, configurations}
+use Rattle.tv_spec_boxes.specs.Configurations.{Configuration, configuration, extras_of, fillings, fillings_of, boxes_left, boxes_of, configurations_on, configurations}
 use Rattle.tv_spec_boxes.specs.Relations.{AreExtras, AreAtCorners, IsConfiguration}
 use Rattle.tv_spec_boxes.proofs.Sublists.{sublists_of-length}
 use Rattle.tv_spec_boxes.proofs.Vectors.{same_vector-same}
@@ -160,14 +159,13 @@ of_class w v a graded one_each diagrams class =
     (choice_listed (degrees w) (weights_positive w (compact w) graded) m a (record { one_each = one_each ∙ sym (length-map (compact w) (λ e. as_natural (edge_degree w e))); diagrams = diagrams; within = omega arith }))
     (rw class (same_vector-same v))
 
-left : (costs chi : ℤ) (boxes overlaps : ℕ) (n : ℤ) → (costs +ℤ pos boxes) -ℤ pos overlaps ≡ n → (n -ℤ costs) +ℤ pos overlaps ≡ pos boxes
-left costs chi boxes overlaps n e = omega (arith, ints)
+left : (costs : ℤ) (boxes overlaps : ℕ) (n : ℤ) → (costs +ℤ pos boxes) -ℤ pos overlaps ≡ n → (n -ℤ costs) +ℤ pos overlaps ≡ pos boxes
+left costs boxes overlaps n e = omega (arith, ints)
 
 listed : (w : Web) (fixed : List Rows) (v : List ℤ) (n : ℤ) (c : Configuration) → IsGraded w → AllByRecursion IsDiagram fixed → IsConfiguration w fixed v n c → Contains (configurations w fixed v n) c
 listed w fixed v n c graded also is =
-    let a = c.diagrams in
     let legs = all_legs w c.diagrams fixed in
-    let boxes : boxes_left w fixed c.diagrams n ≡ pos (boxes_of c.extras) = left (edge_costs w c.diagrams) n (boxes_of c.extras) (overlaps_of (all_legs w c.diagrams fixed)) n is.chi in
+    let boxes : boxes_left w fixed c.diagrams n ≡ pos (boxes_of c.extras) = left (edge_costs w c.diagrams) (boxes_of c.extras) (overlaps_of (all_legs w c.diagrams fixed)) n is.chi in
     let filled : Contains (fillings_of legs (boxes_left w fixed c.diagrams n)) c.extras = rw boxes (filling_listed legs (legs_are w c.diagrams fixed is.diagrams also) c.extras is.extras (boxes_of c.extras) (boxes_of c.extras) refl (omega arith)) in
     contains-flat_map (λ b. configurations_on w fixed b n) c.diagrams c (assignments_of w v) (of_class w v c.diagrams graded is.one_each is.diagrams is.class)
     (contains-map (configuration c.diagrams) c.extras (fillings_of legs (boxes_left w fixed c.diagrams n)) filled)

@@ -1,6 +1,6 @@
 -- The crowd of a class bounds its configurations, the ways to split boxes over the first corners of an assignment, and
 -- the counts of its corners.
-use Rattle.std.specs.Prelude.{◌≡◌, Contains, ℕ, suc, ◌+◌, ◌≤◌, true, ◌&&◌, int_le, ℤ, pos, negsuc, ◌≤ℤ◌, List, [], ◌∷◌, length}
+use Rattle.std.specs.Prelude.{◌≡◌, Contains, ℕ, suc, ◌≤◌, true, ◌&&◌, int_le, ℤ, pos, negsuc, ◌≤ℤ◌, List, length}
 use Rattle.std.specs.List.{AllByRecursion}
 use Rattle.std.proofs.Common.{refl, arith, le_trans}
 use Rattle.std.proofs.lemmas.Int.{ints}
@@ -10,7 +10,7 @@ use Rattle.tv_cells.specs.declared.legs.Legs.{Legs}
 use Rattle.tv_cells.specs.Extras.{AreDiagrams, count}
 use Rattle.tv_spec_boxes.specs.Assignments.{Rows, Assignment, all_legs, class_of, assignments, assignments_of, same_vector}
 use Rattle.tv_spec_boxes.specs.Configurations.{fillings, boxes_left}
-use Rattle.tv_spec_boxes.specs.Numbers.{lowest, box_bound, crowd_on, crowd}
+use Rattle.tv_spec_boxes.specs.Numbers.{lowest, box_bound, crowd_on, crowd_at, crowd}
 use Rattle.tv_lemmas.specs.Sums.{sum_of}
 use Rattle.tv_lemmas.proofs.Sums.{sum_of-≤, sum_of-each, sum_of-term}
 use Rattle.tv_spec_boxes.proofs.Vectors.{same_vector-same}
@@ -35,9 +35,6 @@ crowd_on-ways legs (pos m) bound all h = crowd_on-term legs m bound all (omega (
 crowd_on-ways legs (negsuc m) bound all h = omega arith
 
 -- the crowd of a class
-abbrev crowd_at : Web → List Rows → ℕ → ℤ → Assignment → ℕ
-crowd_at w fixed d n a = crowd_on (all_legs w a fixed) (box_bound n (lowest w fixed d))
-
 between : (z : ℤ) (d : ℕ) → pos 0 ≤ℤ z → z ≤ℤ pos d → (int_le (pos 0) z && int_le z (pos d)) ≡ true
 between z d h k = grind (arith, ints)
 

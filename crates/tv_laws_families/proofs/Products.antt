@@ -1,7 +1,7 @@
 -- Products and quotients of functions of the exponent: in a ring the multiples of one convolve as the whole numbers do, and
 -- a quotient is the only one.
 use Rattle.std.proofs.Common.{◌≡◌, ◌≢◌, ℕ, zero, suc, ◌-◌, ◌*◌, ◌<◌, ◌≤◌, refl, sym, ap, ◌∙◌, arith}
-use Rattle.std.specs.Prelude.{ℤ, pos, ◌+ℤ◌, ◌-ℤ◌, ◌*ℤ◌, ◌≤ℤ◌, ◌<ℤ◌, unsigned_abs, int_lt, true, false, if◌then◌else◌}
+use Rattle.std.specs.Prelude.{ℤ, pos, ◌+ℤ◌, ◌-ℤ◌, ◌*ℤ◌, ◌≤ℤ◌, ◌<ℤ◌, unsigned_abs, int_lt, if◌then◌else◌}
 use Rattle.std.specs.Int.{int_min}
 use Rattle.std.proofs.lemmas.Int.{ints, by_lt_z, clamps, unsigned_abs-mul}
 use Rattle.std.proofs.lemmas.Nat.{mul-le}
@@ -18,7 +18,8 @@ use Rattle.tv_laws_series.specs.Quotients.{owed}
 use Rattle.tv_laws_series.proofs.Exponents.{above_is, above_adds}
 use Rattle.tv_laws_series.proofs.Padded.{padded_before, padded_after, padded-convolution}
 use Rattle.tv_laws_series.proofs.Quotients.{owed_is, owed-same}
-use Rattle.tv_spec_series.specs.Reduced.{from, product_at, BeginsAt, IsQuotient}
+use Rattle.tv_spec_series.specs.Reduced.{product_at, BeginsAt, IsQuotient}
+use Rattle.tv_spec_series.proofs.Products.{from, product-below, product-at}
 use Rattle.tv_laws_families.specs.Laws.{OnlyQuotientThrough, IsQuotientFromZero, QuotientFromZero}
 
 abbrev pub multiples : {A : Type 0} → Operations A → (ℕ → ℤ) → ℕ → A
@@ -37,27 +38,6 @@ module _ {A : Type 0} {IsValue : A → Type 0} {r : Operations A} (laws : RingLa
       convolution_is r (multiples r c) (multiples r f) k
       ∙ (sum_below-same r (term r (multiples r c) (multiples r f) k) (multiples r (term wholes c f k)) (suc k) (λ i h. term-multiples c f k i)
       ∙ (sum_below-multiples (term wholes c f k) (suc k) ∙ ap (whole_times r) (sym (convolution_is wholes c f k))))
-
-int_lt-is : (a b : ℤ) → a <ℤ b → int_lt a b ≡ true
-int_lt-is a b h = grind (arith, ints)
-
-int_lt-not : (a b : ℤ) → b ≤ℤ a → int_lt a b ≡ false
-int_lt-not a b h = grind (arith, ints)
-
-product_at_is : (low first : ℤ) (f g : ℤ → ℤ) (n : ℤ) → product_at low first f g n ≡ (if int_lt n (low +ℤ first) then pos 0 else convolution wholes (from f low) (from g first) (above (low +ℤ first) n))
-unfolding product_at
-product_at_is low first f g n = refl
-
-pub product-below : (low first : ℤ) (f g : ℤ → ℤ) (n : ℤ) → n <ℤ (low +ℤ first) → product_at low first f g n ≡ pos 0
-product-below low first f g n h = let b = int_lt-is n (low +ℤ first) h in rw (product_at_is low first f g n, b) refl
-
-above_start : (low : ℤ) (k : ℕ) → above low (low +ℤ pos k) ≡ k
-above_start low k = omega (arith, ints, above_is low (low +ℤ pos k))
-
-pub product-at : (low first : ℤ) (f g : ℤ → ℤ) (k : ℕ) → product_at low first f g ((low +ℤ first) +ℤ pos k) ≡ convolution wholes (from f low) (from g first) k
-product-at low first f g k =
-    let b = int_lt-not ((low +ℤ first) +ℤ pos k) (low +ℤ first) (omega (arith, ints)) in
-    rw (product_at_is low first f g ((low +ℤ first) +ℤ pos k), b, above_start (low +ℤ first) k) refl
 
 -- counted from a lower exponent, a series is 0 at first
 from-lower : (low m : ℤ) (f : ℤ → ℤ) (i : ℕ) → m ≤ℤ low → ((n : ℤ) → n <ℤ low → f n ≡ pos 0) → from f m i ≡ padded wholes (above m low) (from f low) i

@@ -1,7 +1,7 @@
 -- What the assignments of one class among some add to the count, and in how many ways.
 use Rattle.std.specs.Prelude.{◌≡◌, ℕ, ◌+◌, ◌*◌, ◌≤◌, ℤ, pos, negsuc, ◌+ℤ◌, unsigned_abs, Bool, true, false, cond, nat_eq, List, [], ◌∷◌, ◌++◌}
 use Rattle.std.proofs.Common.{refl, sym, ap, ◌∙◌, arith, append-nil}
-use Rattle.std.proofs.lemmas.Int.{ints, unsigned_abs-mul}
+use Rattle.std.proofs.lemmas.Int.{unsigned_abs-mul}
 use Rattle.std.proofs.lemmas.List.Elements.{filter-append}
 use Rattle.tv_lemmas.specs.Sums.{total, sum_of}
 use Rattle.tv_spec_plane.specs.Web.{Web, sign, parity}

@@ -12,11 +12,11 @@ use Rattle.tv_spec_plane.specs.declared.records.EdgeRef.TheVariants.{Compact, Ou
 use Rattle.tv_spec_plane.specs.declared.records.Corner.{Corner}
 use Rattle.tv_spec_plane.specs.Web.{Web, compact, outer, corners, normal_a, edge_class, edge_degree, class_entry, degree_of, sign}
 use Rattle.tv_partition.specs.Rows.{IsDiagram, diagrams, diagrams_within}
-use Rattle.tv_cells.specs.declared.legs.Legs.{Legs}
 use Rattle.tv_cells.specs.Costs.{rows_cost}
 use Rattle.tv_cells.proofs.Overlaps.{no-overlap}
 use Rattle.tv_spec_boxes.specs.Assignments.{Assignment, no_legs, rows_at, legs_of, all_legs, zeros, plus, times, class_on, class_of, sum_on, cost_by, twist_by, overlaps_of, choices, assignments, same_vector, assignments_of}
 use Rattle.tv_spec_boxes.specs.Configurations.{boxes_left}
+use Rattle.tv_spec_boxes.specs.OneCorner.{empty_legs}
 use Rattle.std.proofs.lemmas.List.FromFn.{length-map-range_with_len}
 use Rattle.tv_lemmas.proofs.Sums.{total-one}
 use Rattle.tv_laws_counts.specs.Ways.{ways_at, assignment_sign, assignment_coefficient}
@@ -96,15 +96,12 @@ rows-nothing : (w : Web) (e : EdgeRef) → rows_at (nothing (compact w)) (no_leg
 rows-nothing w (Compact k) = row-nothing (compact w) k
 rows-nothing w (Outer k) = row-nothing (outer w) k
 
-abbrev bare : Legs
-bare = record { along_x = []; along_y = []; along_z = [] }
-
-legs-nothing : (w : Web) (c : Corner) → legs_of (nothing (compact w)) (no_legs w) c ≡ bare
+legs-nothing : (w : Web) (c : Corner) → legs_of (nothing (compact w)) (no_legs w) c ≡ empty_legs
 legs-nothing w c = rw (rows-nothing w c.along_x, rows-nothing w c.along_y, rows-nothing w c.along_z) refl
 
 pub overlaps-nothing : (w : Web) (cs : List Corner) → overlaps_of (map (legs_of (nothing (compact w)) (no_legs w)) cs) ≡ 0
 overlaps-nothing w [] = refl
-overlaps-nothing w (c ∷ cs) = rw (legs-nothing w c, no-overlap bare refl, overlaps-nothing w cs) refl
+overlaps-nothing w (c ∷ cs) = rw (legs-nothing w c, no-overlap empty_legs refl, overlaps-nothing w cs) refl
 
 left-nothing : (w : Web) (n : ℤ) → boxes_left w (no_legs w) (nothing (compact w)) n ≡ n
 left-nothing w n = rw (costs-nothing w (compact w), overlaps-nothing w (corners w)) (omega (arith, ints))

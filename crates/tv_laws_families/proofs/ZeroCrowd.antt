@@ -1,5 +1,5 @@
 -- The configurations of class zero that the division takes are among those that the crowd of class zero counts.
-use Rattle.std.proofs.Common.{◌≡◌, ℕ, zero, suc, ◌+◌, ◌-◌, ◌≤◌, refl, ap, ◌∙◌, arith}
+use Rattle.std.proofs.Common.{◌≡◌, ℕ, suc, ◌+◌, ◌-◌, ◌≤◌, refl, ap, ◌∙◌, arith}
 use Rattle.std.specs.Prelude.{ℤ, pos, negsuc, ◌-ℤ◌, ◌≤ℤ◌, List, [], ◌∷◌, length, cond, ◌&&◌, int_le, true}
 use Rattle.std.specs.Int.{int_max}
 use Rattle.std.proofs.lemmas.Int.{ints, clamps}
@@ -11,9 +11,9 @@ use Rattle.tv_spec_plane.specs.declared.records.CompactEdge.{CompactEdge}
 use Rattle.tv_spec_plane.specs.Web.{Web, compact, corners}
 use Rattle.tv_cells.specs.declared.legs.Legs.{Legs}
 use Rattle.tv_cells.specs.Costs.{rows_cost}
-use Rattle.tv_spec_boxes.specs.Assignments.{Assignment, sum_on, no_legs, all_legs, zeros, assignments_of}
+use Rattle.tv_spec_boxes.specs.Assignments.{sum_on, no_legs, all_legs, zeros, assignments_of}
 use Rattle.tv_spec_boxes.specs.Configurations.{fillings}
-use Rattle.tv_spec_boxes.specs.Numbers.{fall_by, low_of, least, lowest, box_bound, crowd_on, crowd}
+use Rattle.tv_spec_boxes.specs.Numbers.{fall_by, low_of, least, lowest, box_bound, crowd_on, crowd_at, crowd}
 use Rattle.tv_laws_counts.proofs.Bounds.{lowest-none}
 use Rattle.tv_laws_families.proofs.ZeroClass.{nothing, assignments-none, overlaps-nothing, degree-zeros}
 
@@ -34,10 +34,7 @@ crowd_on-≤ legs m n h =
     let more = sum_of-more (λ i. length (fillings legs i i)) 0 (suc m) (n - m) in
     rw e at more
 
-abbrev crowd_by : Web → ℕ → ℤ → Assignment → ℕ
-crowd_by w d n a = crowd_on (all_legs w a (no_legs w)) (box_bound n (lowest w (no_legs w) d))
-
-crowd-zero : (w : Web) (d : ℕ) (n : ℤ) → crowd w (no_legs w) d n (zeros (length w.points)) ≡ sum_of (crowd_by w d n) (assignments_of w (zeros (length w.points)))
+crowd-zero : (w : Web) (d : ℕ) (n : ℤ) → crowd w (no_legs w) d n (zeros (length w.points)) ≡ sum_of (crowd_at w (no_legs w) d n) (assignments_of w (zeros (length w.points)))
 unfolding crowd
 crowd-zero w d n = rw (degree-zeros w.heights (length w.points)) (passes (int_le (pos 0) (pos d)) _ (is_within d))
   where
@@ -59,4 +56,4 @@ pub zero_crowd : (w : Web) (d : ℕ) (n m : ℤ) → m ≤ℤ int_max (pos 0) (n
 zero_crowd w d n m h =
     let less = bound_less n m (lowest w (no_legs w) d) (lowest-none w (no_legs w) d) h in
     let fewer : box_bound m (lowest w (no_legs w) 0) ≤ box_bound n (lowest w (no_legs w) d) = rw (lowest-zero w) less in
-    rw (crowd-zero w 0 m, crowd-zero w d n) (sum_of-≤ (crowd_by w 0 m) (crowd_by w d n) (assignments_of w (zeros (length w.points))) (all-any (λ a. crowd_by w 0 m a ≤ crowd_by w d n a) (λ a. crowd_on-≤ (all_legs w a (no_legs w)) (box_bound m (lowest w (no_legs w) 0)) (box_bound n (lowest w (no_legs w) d)) fewer) (assignments_of w (zeros (length w.points)))))
+    rw (crowd-zero w 0 m, crowd-zero w d n) (sum_of-≤ (crowd_at w (no_legs w) 0 m) (crowd_at w (no_legs w) d n) (assignments_of w (zeros (length w.points))) (all-any (λ a. crowd_at w (no_legs w) 0 m a ≤ crowd_at w (no_legs w) d n a) (λ a. crowd_on-≤ (all_legs w a (no_legs w)) (box_bound m (lowest w (no_legs w) 0)) (box_bound n (lowest w (no_legs w) d)) fewer) (assignments_of w (zeros (length w.points)))))

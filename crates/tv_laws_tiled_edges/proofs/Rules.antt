@@ -13,15 +13,13 @@ use Rattle.tv_lattice.specs.Limits.{HasCoordinates}
 use Rattle.tv_triangulation.specs.Turned.{turned_of, turned, IsUnit}
 use Rattle.tv_lemmas.proofs.Members.{all-at}
 use Rattle.tv_laws_tiling.proofs.Turns.{turn-back}
+use Rattle.tv_triangulation.proofs.Tilings.{no_triple}
 use Rattle.tv_triangulation.specs.Triangulated.{IsTiled}
 use Rattle.tv_laws_edges.specs.Rule.{HasSides, HasRule}
 use Rattle.tv_laws_tiled_edges.specs.Laws.{TilingHasEdgeRule}
 use Rattle.tv_laws_tiled_edges.proofs.Corners.{IsBeside, beside_edge}
 use Rattle.tv_laws_tiled_edges.proofs.Shared.{no_shared_side}
 use Rattle.tv_laws_tiled_edges.proofs.Owners.{Rising, rising_filter, Gives, each_pair}
-
-abbrev no_triple : Triple
-no_triple = record { a = 0; b = 0; c = 0 }
 
 -- triangles with no side in common lie on the two sides of an edge
 two_sides : (ps : List Point) (t u : Triple) (a b c d : ℕ) → ((s : ℕ × ℕ) → Among s (sides t) → Among s (sides u) → ⊥) → IsBeside ps t a b c → IsBeside ps u a b d → HasSides (at ps a) (at ps b) (at ps c) (at ps d)

@@ -16,6 +16,7 @@ use Rattle.tv_laws_tiling.specs.Laws.{MatchedTrianglesTile}
 use Rattle.tv_laws_tiling.proofs.Members.{append-among_left, append-among_right}
 use Rattle.tv_laws_tiling.proofs.Cancels.{total-cancels}
 use Rattle.tv_laws_tiling.proofs.Turns.{side-back}
+use Rattle.tv_laws_tiling.proofs.Spread.{spans-three}
 use Rattle.tv_laws_tiling.proofs.Crossings.{number, number-back, number-climbs, number-descends, weighted-adds}
 use Rattle.tv_laws_tiling.proofs.Heights.{at-small, height, height-less, height-flat, lift, lift-less, lift-least, lift-greatest, lift-weighted}
 use Rattle.tv_laws_tiling.proofs.Runs.{Climbs, Descends, climb-run, descent-run, run-first, run-last, run-telescopes}
@@ -84,7 +85,8 @@ over-rises ps p i j positive_k less e =
 
 -- the ends of the climb are apart, since the points are not all on one level
 ends-apart : (ps : List Point) (hull : List Segment) → AreSmall ps → SpansPlane ps → (r : IsRound ps hull) → r.least ≡ r.greatest → ⊥
-ends-apart ps hull small spread r same =
+ends-apart ps hull small spans r same =
+    let spread = spans-three ps spans in
     let level : (k : ℕ) → k < length ps → height (at ps k) ≡ height (at ps r.least) = λ k h. same-by_order (height (at ps k)) (height (at ps r.least))
     (λ less. r.first.least k h (height-less _ _ (at-small ps small k) (at-small ps small r.least) less))
     (λ less. r.last.greatest k h (subst (λ (i : ℕ). IsLess (at ps i) (at ps k)) same (height-less _ _ (at-small ps small r.least) (at-small ps small k) less))) in

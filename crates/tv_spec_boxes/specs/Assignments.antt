@@ -22,11 +22,12 @@
 --                       of a web in which every compact edge has a degree of at least 1
 -- same_vector u v    == the two vectors are equal
 -- assignments_of w v == the assignments of class v
-use Rattle.std.specs.Prelude.{ℕ, zero, suc, ◌+◌, ◌-◌, ◌*◌, ℤ, pos, ◌+ℤ◌, ◌*ℤ◌, List, [], ◌∷◌, map, filter, length, slice_index_or, Bool, nat_le}
+use Rattle.std.specs.Prelude.{ℕ, zero, suc, ◌-◌, ◌*◌, ℤ, pos, ◌+ℤ◌, ◌*ℤ◌, List, [], ◌∷◌, map, filter, length, slice_index_or, Bool, nat_le}
 use Rattle.std.specs.Ordering.{int_eq}
 use Rattle.std.specs.Cmp.Lexicographic.{pointwise}
 use Rattle.std.specs.List.{flat_map}
 use Rattle.tv_lemmas.specs.Naturals.{as_natural}
+use Rattle.tv_lemmas.specs.Sums.{sum_of}
 use Rattle.tv_spec_plane.specs.declared.records.CompactEdge.{CompactEdge}
 use Rattle.tv_spec_plane.specs.declared.records.OuterEdge.{OuterEdge}
 use Rattle.tv_spec_plane.specs.declared.records.EdgeRef.{EdgeRef}
@@ -99,8 +100,7 @@ abbrev pub edge_twist : Web → Assignment → ℤ
 edge_twist w a = sum_on (twist_by w) (compact w) a
 
 abbrev pub overlaps_of : List Legs → ℕ
-overlaps_of [] = 0
-overlaps_of (legs ∷ rest) = overlap_cost legs + overlaps_of rest
+overlaps_of legs = sum_of overlap_cost legs
 
 -- one diagram for each degree, with sizes times degrees adding up to at most d
 unfoldable pub choices : List ℕ → ℕ → List Assignment

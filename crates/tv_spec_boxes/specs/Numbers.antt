@@ -6,9 +6,11 @@
 -- lowest w fixed d   == the least low over the assignments of degree at most d
 -- box_bound n low    == max(0, n - 2 low)
 -- crowd_on legs n    == the number of fillings of these corners with at most n boxes
+-- crowd_at w fixed d n a == the number of fillings of the corners of an assignment with at most max(0, n - 2 lowest) boxes
+-- in_degrees w d v   == the degree of v is from 0 to d
 -- crowd w fixed d n v == the number of configurations of class v with at most max(0, n - 2 lowest) boxes in all; 0
 --                       where the degree of v is below 0 or above d
-use Rattle.std.specs.Prelude.{ℕ, suc, ◌+◌, ℤ, pos, ◌+ℤ◌, ◌-ℤ◌, List, [], ◌∷◌, length, cond, ◌&&◌, int_le}
+use Rattle.std.specs.Prelude.{ℕ, suc, ℤ, pos, ◌-ℤ◌, List, [], ◌∷◌, length, Bool, cond, ◌&&◌, int_le}
 use Rattle.std.specs.Int.{int_min}
 use Rattle.tv_lemmas.specs.Naturals.{as_natural}
 use Rattle.tv_lemmas.specs.Sums.{sum_of}
@@ -38,5 +40,11 @@ box_bound n low = as_natural ((n -ℤ low) -ℤ low)
 abbrev pub crowd_on : List Legs → ℕ → ℕ
 crowd_on legs n = sum_of (λ i. length (fillings legs i i)) (below (suc n))
 
+abbrev pub crowd_at : Web → List Rows → ℕ → ℤ → Assignment → ℕ
+crowd_at w fixed d n a = crowd_on (all_legs w a fixed) (box_bound n (lowest w fixed d))
+
+abbrev pub in_degrees : Web → ℕ → List ℤ → Bool
+in_degrees w d v = int_le (pos 0) (degree_of w.heights v) && int_le (degree_of w.heights v) (pos d)
+
 unfoldable pub crowd : Web → List Rows → ℕ → ℤ → List ℤ → ℕ
-crowd w fixed d n v = cond (int_le (pos 0) (degree_of w.heights v) && int_le (degree_of w.heights v) (pos d)) (sum_of (λ a. crowd_on (all_legs w a fixed) (box_bound n (lowest w fixed d))) (assignments_of w v)) 0
+crowd w fixed d n v = cond (in_degrees w d v) (sum_of (crowd_at w fixed d n) (assignments_of w v)) 0

@@ -5,12 +5,15 @@
 -- items, values f xs == the array of the values f x
 -- point_value p    == the array of the two coordinates
 -- triangle_value t == the array of the three numbers of points
+-- heights_member w rest, points_member w rest, triangles_member w rest == that key of an object with its array, and the rest
 -- file_value w     == the object that spells a web: its heights, its points, its triangles, and `tv` 1
 -- SpellsValue d w  == the value d spells that web; the numbers are within those of a text
--- IsFileValue d    == d spells some web
 -- IsFileJson bytes w == the bytes are UTF-8, and read as a value that spells that web
-use Rattle.std.specs.Prelude.{◌≡◌, ℕ, ℤ, pos, List, [], ◌∷◌, codes, Some, IsUtf8}
-use Rattle.serde_json.specs.Data.{Data, number, array, object, Items, no_items, item, no_members, member}
+-- is_json bytes    == the first byte is `{`, a space, a tab, LF or CR: such bytes are taken as JSON, all others as text
+-- IsRefusedJson bytes == they number at most 65536, and are no file in JSON: bytes without a reading, or of another form
+use Rattle.std.specs.Prelude.{◌≡◌, ◌≤◌, ℕ, ℤ, pos, List, [], ◌∷◌, length, codes, Bool, false, nat_eq, Some, IsUtf8}
+use Rattle.std.specs.List.{list_any}
+use Rattle.serde_json.specs.Data.{Data, number, array, object, Items, no_items, item, Members, no_members, member}
 use Rattle.serde_json.specs.Find.{of_integer}
 use Rattle.serde_json.specs.Read.{read}
 use Rattle.tv_spec_plane.specs.declared.records.Triple.{Triple}
@@ -34,19 +37,32 @@ point_value p = values whole (p.x ∷ p.y ∷ [])
 abbrev pub triangle_value : Triple → Data
 triangle_value t = values whole (pos t.a ∷ pos t.b ∷ pos t.c ∷ [])
 
+abbrev pub heights_member : Web → Members → Members
+heights_member w rest = member (codes "heights") (values whole w.heights) rest
+
+abbrev pub points_member : Web → Members → Members
+points_member w rest = member (codes "points") (values point_value w.points) rest
+
+abbrev pub triangles_member : Web → Members → Members
+triangles_member w rest = member (codes "triangles") (values triangle_value w.triangles) rest
+
 abbrev pub file_value : Web → Data
-file_value w =
-    object (member (codes "heights") (values whole w.heights) (member (codes "points") (values point_value w.points) (member (codes "triangles") (values triangle_value w.triangles) (member (codes "tv") (whole (pos 1)) no_members))))
+file_value w = object (heights_member w (points_member w (triangles_member w (member (codes "tv") (whole (pos 1)) no_members))))
 
 pub record SpellsValue (d : Data) (w : Web) : Type 0 where
   pub fits : Fits w
   pub same : d ≡ file_value w
-
-abbrev pub IsFileValue : Data → Type 0
-IsFileValue d = (w : Web) × SpellsValue d w
 
 pub record IsFileJson (bytes : List ℕ) (w : Web) : Type 0 where
   pub utf8 : IsUtf8 bytes
   pub value : Data
   pub reads : read bytes ≡ Some value
   pub spells : SpellsValue value w
+
+abbrev pub is_json : List ℕ → Bool
+is_json [] = false
+is_json (byte ∷ bytes) = list_any (nat_eq byte) (codes "{ \t\n\r")
+
+pub record IsRefusedJson (bytes : List ℕ) : Type 0 where
+  pub short : length bytes ≤ 65536
+  pub other : (w : Web) → IsFileJson bytes w → ⊥

@@ -1,3 +1,5 @@
+pub mod Samples
 mod Values
+mod StepValues
 mod IntegerValues
 mod MadeUp

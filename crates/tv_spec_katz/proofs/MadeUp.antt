@@ -13,7 +13,7 @@ use Rattle.tv_spec_katz.specs.Binomials.{choose, binomial, power_sign, power_at,
 use Rattle.tv_spec_katz.specs.Places.{difference_by, unit}
 use Rattle.tv_spec_katz.specs.Product.{times, product}
 use Rattle.tv_spec_katz.specs.Katz.{katz}
-use Rattle.tv_spec_katz.specs.Integers.{integers, candidates, Differs, IsCompared, IsMismatch}
+use Rattle.tv_spec_katz.specs.Integers.{integers, candidates, Agrees, Differs, IsCompared, IsMismatch}
 
 abbrev heights : List ℤ
 heights = pos 1 ∷ []
@@ -38,15 +38,12 @@ none : (b : Bool) → (if b && false then pos 1 else pos 0) ≡ pos 0
 none true = refl
 none false = refl
 
-abbrev Agrees : ℤ → ℤ → Type 0
-Agrees x n = katz heights [] (x ∷ []) n ≡ coefficient_of wholes made_up (x ∷ []) n
-
 -- the product is 1 at class zero and exponent 0, and 0 elsewhere
-agrees_below_zero : (x : ℕ) (n : ℤ) → Agrees (negsuc x) n
+agrees_below_zero : (x : ℕ) (n : ℤ) → Agrees made_up [] (negsuc x ∷ []) n
 unfolding katz product unit find coefficient
 agrees_below_zero x n = ap (λ z. power_sign (unsigned_abs n) *ℤ z) (none (int_eq (degree_of heights (negsuc x ∷ [])) (pos 0))) ∙ *ℤ-zero (power_sign (unsigned_abs n))
 
-agrees_at_zero : (n : ℤ) → n ≤ℤ pos 3 → Agrees (pos 0) n
+agrees_at_zero : (n : ℤ) → n ≤ℤ pos 3 → Agrees made_up [] (pos 0 ∷ []) n
 unfolding katz product unit find coefficient at above
 agrees_at_zero (negsuc n) h = *ℤ-zero (power_sign (suc n))
 agrees_at_zero (pos zero) h = refl
@@ -55,7 +52,7 @@ agrees_at_zero (pos (suc (suc zero))) h = refl
 agrees_at_zero (pos (suc (suc (suc zero)))) h = refl
 agrees_at_zero (pos (suc (suc (suc (suc n))))) h = absurd (omega (arith, ints))
 
-agrees_below_two : (n : ℤ) → n <ℤ pos 2 → Agrees (pos 1) n
+agrees_below_two : (n : ℤ) → n <ℤ pos 2 → Agrees made_up [] (pos 1 ∷ []) n
 unfolding katz product unit find coefficient at above
 agrees_below_two (negsuc n) h = *ℤ-zero (power_sign (suc n))
 agrees_below_two (pos zero) h = refl

@@ -8,6 +8,7 @@ use Rattle.tv_spec_katz.specs.Places.{difference_by, unit}
 use Rattle.tv_spec_katz.specs.Product.{times, product}
 use Rattle.tv_spec_katz.specs.Katz.{Integer, katz}
 use Rattle.tv_spec_katz.specs.Integers.{integers, candidates}
+use Rattle.tv_spec_katz.proofs.Samples.{conifold_heights, conifold_class, conifold_twice, conifold_integer, conifold_series, plane_heights, line, conic, plane_integers, plane_series}
 use Rattle.tv_spec_katz.specs.Majorant.{majorant, absolute_product, greatest_slope}
 
 -- a binomial with an upper entry below 0, and with one that isn't
@@ -28,79 +29,39 @@ square : map (power_at (pos 2)) (0 ∷ 1 ∷ 2 ∷ 3 ∷ []) ≡ pos 1 ∷ negsu
 unfolding power_at binomial choose
 square = refl
 
-conifold_heights : List ℤ
-conifold_heights = pos 0 ∷ pos 1 ∷ pos 0 ∷ pos 0 ∷ []
-
-conifold_class : List ℤ
-conifold_class = negsuc 0 ∷ pos 1 ∷ negsuc 0 ∷ pos 1 ∷ []
-
-conifold_twice : List ℤ
-conifold_twice = negsuc 1 ∷ pos 2 ∷ negsuc 1 ∷ pos 2 ∷ []
-
-conifold_integer : List Integer
-conifold_integer = record { class = conifold_class; genus = 0; value = pos 1 } ∷ []
-
 -- the one curve of the conifold: 1, -2, 3, -4, 5 in degree 1
 conifold_first : map (λ n. katz conifold_heights conifold_integer conifold_class n) (pos 0 ∷ pos 1 ∷ pos 2 ∷ pos 3 ∷ pos 4 ∷ pos 5 ∷ []) ≡ pos 0 ∷ pos 1 ∷ negsuc 1 ∷ pos 3 ∷ negsuc 3 ∷ pos 5 ∷ []
-unfolding conifold_heights conifold_class conifold_integer katz product times unit difference_by power_at binomial choose sum_below
+unfolding katz product times unit difference_by power_at binomial choose sum_below
 conifold_first = refl
 
 -- and -2, 4, -10 from exponent 3 in degree 2
 conifold_second : map (λ n. katz conifold_heights conifold_integer conifold_twice n) (pos 1 ∷ pos 2 ∷ pos 3 ∷ pos 4 ∷ pos 5 ∷ []) ≡ pos 0 ∷ pos 0 ∷ negsuc 1 ∷ pos 4 ∷ negsuc 9 ∷ []
-unfolding conifold_heights conifold_class conifold_twice conifold_integer katz product times unit difference_by power_at binomial choose sum_below
+unfolding katz product times unit difference_by power_at binomial choose sum_below
 conifold_second = refl
-
-conifold_series : Family ℤ
-conifold_series = record {
-  heights = conifold_heights;
-  top = pos 2;
-  upto = pos 5;
-  rows = row (pos 0 ∷ pos 0 ∷ pos 0 ∷ pos 0 ∷ []) (terms (pos 0) (pos 1 ∷ pos 0 ∷ pos 0 ∷ pos 0 ∷ pos 0 ∷ pos 0 ∷ [])) ∷ row conifold_class (terms (pos 1) (pos 1 ∷ negsuc 1 ∷ pos 3 ∷ negsuc 3 ∷ pos 5 ∷ [])) ∷ row conifold_twice (terms (pos 3) (negsuc 1 ∷ pos 4 ∷ negsuc 9 ∷ [])) ∷ [];
-}
 
 -- the 1 is read off the series of both classes
 conifold_integers_are : integers 2 conifold_series ≡ conifold_integer
-unfolding conifold_heights conifold_class conifold_twice conifold_integer conifold_series integers candidates comes_before find coefficient at above katz product times unit difference_by power_at binomial choose sum_below
+unfolding integers candidates comes_before find coefficient at above katz product times unit difference_by power_at binomial choose sum_below
 conifold_integers_are = refl
-
-plane_heights : List ℤ
-plane_heights = pos 0 ∷ pos 1 ∷ pos 0 ∷ pos 0 ∷ []
-
-line : List ℤ
-line = negsuc 2 ∷ pos 1 ∷ pos 1 ∷ pos 1 ∷ []
-
-conic : List ℤ
-conic = negsuc 5 ∷ pos 2 ∷ pos 2 ∷ pos 2 ∷ []
-
-plane_integers : List Integer
-plane_integers = record { class = conic; genus = 0; value = negsuc 5 } ∷ record { class = line; genus = 0; value = pos 3 } ∷ []
 
 -- lines and conics of local P^2, 3 and -6: -6, 15, -36 in degree 2
 plane_second : map (λ n. katz plane_heights plane_integers conic n) (pos 0 ∷ pos 1 ∷ pos 2 ∷ pos 3 ∷ []) ≡ pos 0 ∷ negsuc 5 ∷ pos 15 ∷ negsuc 35 ∷ []
-unfolding plane_heights line conic plane_integers katz product times unit difference_by power_at binomial choose sum_below
+unfolding katz product times unit difference_by power_at binomial choose sum_below
 plane_second = refl
-
-plane_series : Family ℤ
-plane_series = record {
-  heights = plane_heights;
-  top = pos 2;
-  upto = pos 3;
-  rows = row (pos 0 ∷ pos 0 ∷ pos 0 ∷ pos 0 ∷ []) (terms (pos 0) (pos 1 ∷ pos 0 ∷ pos 0 ∷ pos 0 ∷ [])) ∷ row line (terms (pos 1) (pos 3 ∷ negsuc 5 ∷ pos 9 ∷ [])) ∷ row conic (terms (pos 1) (negsuc 5 ∷ pos 15 ∷ negsuc 35 ∷ [])) ∷ [];
-}
 
 -- they are read off their series
 plane_integers_are : integers 2 plane_series ≡ plane_integers
-unfolding plane_heights line conic plane_integers plane_series integers candidates comes_before find coefficient at above katz product times unit difference_by power_at binomial choose sum_below
+unfolding integers candidates comes_before find coefficient at above katz product times unit difference_by power_at binomial choose sum_below
 plane_integers_are = refl
 
 -- the majorant of the lines of local P^2 at exponent 1: 3 + 2 * 3
 plane_majorant : majorant 2 (pos 3) plane_series plane_integers line (pos 1) ≡ 9
-unfolding plane_heights line conic plane_integers plane_series majorant absolute_product comes_before find coefficient at above product times unit difference_by power_at binomial choose sum_below
+unfolding majorant absolute_product comes_before find coefficient at above product times unit difference_by power_at binomial choose sum_below
 plane_majorant = refl
 
 -- a list that is a part of the class has none
 part_majorant : majorant 2 (pos 3) plane_series plane_integers (negsuc 2 ∷ pos 1 ∷ []) (pos 1) ≡ 0
-unfolding plane_heights plane_series plane_integers majorant
+unfolding majorant
 part_majorant = refl
 
 -- one height of 1, so that a class is its degree

@@ -21,6 +21,7 @@
 -- read_class f is v  == the same for the genera from the first one down
 -- read_classes f is vs == the same for the classes, one after another
 -- integers D f       == the integers of the candidates, class by class in order, the last one first
+-- Agrees f is v n    == at the class v and the exponent n Katz's product over the integers and the family have one value
 -- Differs f is v n   == at the class v and the exponent n Katz's product over the integers and the family differ
 -- IsCompared D N f v n == v has an entry for each height and a degree of at most D, also 0 or below, and n is at most N
 -- IsMismatch D N f is v n == the first class of degree at most D, and in it the first exponent at most N, at which Katz's
@@ -101,6 +102,9 @@ read_classes f is (v ∷ vs) = read_classes f (read_class f is v) vs
 
 unfoldable pub integers : ℕ → Family ℤ → List Integer
 integers D f = read_classes f [] (candidates D f)
+
+abbrev pub Agrees : Family ℤ → List Integer → List ℤ → ℤ → Type 0
+Agrees f is v n = katz f.heights is v n ≡ coefficient_of wholes f v n
 
 abbrev pub Differs : Family ℤ → List Integer → List ℤ → ℤ → Type 0
 Differs f is v n = katz f.heights is v n ≢ coefficient_of wholes f v n

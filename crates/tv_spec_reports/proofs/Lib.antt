@@ -1,2 +1,3 @@
-mod Values
+pub mod Values
 mod BoxesValues
+mod IntegersReportValues

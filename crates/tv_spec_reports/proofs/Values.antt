@@ -14,7 +14,7 @@ use Rattle.tv_spec_boxes.specs.Assignments.{assignments, choices}
 use Rattle.tv_spec_boxes.specs.Configurations.{fillings}
 use Rattle.tv_spec_text.specs.Lines.{Line, line_text}
 use Rattle.tv_spec_text.specs.Reports.{Term, Section, series_text}
-use Rattle.tv_spec_reports.specs.Integers.{GenusValue, GvSection, gv_lines, gv_text}
+use Rattle.tv_spec_reports.specs.IntegerLines.{GenusValue, GvSection, gv_lines, gv_text}
 use Rattle.tv_spec_reports.specs.Boxes.{boxes_text}
 use Rattle.tv_spec_reports.specs.Grids.{grid_text}
 use Rattle.tv_spec_reports.specs.Summaries.{Summary, IsSummary, summary_text}
@@ -25,7 +25,7 @@ two_boxes : boxes_text one_corner (pos 0 ∷ pos 0 ∷ pos 0 ∷ []) (pos 2) ≡
 unfolding one_corner fillings assignments choices compact outer edge_ref edge_ratio turn diagrams diagrams_within cube sublists_of row_cost rows_cost overlap_cost overlaps line_text digits
 two_boxes = refl
 
-term : ℤ → ℤ → Term
+unfoldable pub term : ℤ → ℤ → Term
 term n v = record { exponent = n; coefficient = v }
 
 -- the full series of one corner through order 4
@@ -36,7 +36,7 @@ corner_report : series_text (codes "full") (pos 0 ∷ pos 0 ∷ pos 0 ∷ []) (p
 unfolding line_text digits corner_section term
 corner_report = refl
 
-conifold_sections : List GvSection
+unfoldable pub conifold_sections : List GvSection
 conifold_sections =
     record { section = record { degree = pos 0; entries = pos 0 ∷ pos 0 ∷ pos 0 ∷ pos 0 ∷ []; terms = term (pos 0) (pos 1) ∷ [] }; integers = [] }
     ∷ record { section = record { degree = pos 1; entries = negsuc 0 ∷ pos 1 ∷ negsuc 0 ∷ pos 1 ∷ []; terms = term (pos 1) (pos 1) ∷ term (pos 2) (negsuc 1) ∷ term (pos 3) (pos 3) ∷ term (pos 4) (negsuc 3) ∷ term (pos 5) (pos 5) ∷ [] }; integers = record { genus = 0; value = pos 1 } ∷ [] }
@@ -138,9 +138,9 @@ unit_grid_sections =
 unit_grid_summary : Summary
 unit_grid_summary = record { grid = 1; degree = 1; upto = pos 4; classes = 2; terms = 9; zero = pos 47; sum = 4 }
 
-unit_grid_is_summary : IsSummary unit_grid_sections unit_grid_summary
+unit_grid_is_summary : IsSummary 1 1 (pos 4) unit_grid_sections unit_grid_summary
 unfolding unit_grid_sections unit_grid_summary term
-unit_grid_is_summary = record { classes = refl; terms = refl; zero = refl; least = omega arith; multiple = pos 0; sum = refl }
+unit_grid_is_summary = record { grid = refl; degree = refl; upto = refl; classes = refl; terms = refl; zero = refl; least = omega arith; multiple = pos 0; sum = refl }
 
 unit_grid_summary_text : summary_text unit_grid_summary ≡ codes "report summary\ngrid 1\ndegree 1\nupto 4\nclasses 2\nterms 9\nzero 47\nsum 4\nend\n"
 unfolding line_text digits unit_grid_summary

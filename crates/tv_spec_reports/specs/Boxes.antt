@@ -42,7 +42,12 @@ config_lines w c = (codes "config" ∷ []) ∷ (leg_lines (compact w) c.diagrams
 
 abbrev pub boxes_head : Web → List ℤ → ℤ → List Line
 boxes_head w v chi =
-    (codes "report" ∷ codes "boxes" ∷ []) ∷ (codes "heights" ∷ map spelled w.heights) ∷ (codes "chi" ∷ spelled chi ∷ []) ∷ (codes "class" ∷ spelled (degree_of w.heights v) ∷ map spelled v) ∷ (codes "sign" ∷ spelled (class_sign w.points v chi) ∷ []) ∷ []
+    (codes "report" ∷ codes "boxes" ∷ [])
+    ∷ (codes "heights" ∷ map spelled w.heights)
+    ∷ (codes "chi" ∷ spelled chi ∷ [])
+    ∷ (codes "class" ∷ spelled (degree_of w.heights v) ∷ map spelled v)
+    ∷ (codes "sign" ∷ spelled (class_sign w.points v chi) ∷ [])
+    ∷ []
 
 abbrev pub boxes_lines : Web → List ℤ → ℤ → List Line
 boxes_lines w v chi = boxes_head w v chi ++ (flat_map (config_lines w) (configurations w (no_legs w) v chi) ++ ((codes "end" ∷ []) ∷ []))

@@ -17,7 +17,7 @@ use Rattle.tv_spec_boxes.specs.Assignments.{zeros}
 use Rattle.tv_spec_boxes.specs.Classes.{ClassesRise}
 use Rattle.tv_spec_text.specs.Lines.{Line, IsNumber, IsCount}
 use Rattle.tv_spec_text.specs.Reports.{Term, Rises}
-use Rattle.tv_spec_reports.specs.Integers.{GenusValue, GvSection, gv_lines}
+use Rattle.tv_spec_reports.specs.IntegerLines.{GenusValue, GvSection, gv_lines}
 
 pub record GvData : Type 0 where
   pub heights : List ℤ

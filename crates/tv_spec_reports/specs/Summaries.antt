@@ -6,7 +6,8 @@
 -- sum_of_terms ts == the sum of the coefficients of these terms
 -- value_at n ts  == the coefficient at the exponent n, 0 where no term has it
 -- zero_in n ss   == that of the first section, which is class zero
--- IsSummary ss s == the summary counts and sums these sections, and has class zero's coefficient at its order
+-- IsSummary k D N ss s == the summary is that of grid k in degree D through N with these sections: it counts and sums them, and
+--                   has the coefficient of class zero at N
 -- summary_lines, summary_text == its lines, its text
 use Rattle.std.specs.Prelude.{◌≡◌, ℕ, ◌+◌, ◌<◌, ℤ, pos, ◌+ℤ◌, ◌*ℤ◌, List, [], ◌∷◌, length, codes, cond}
 use Rattle.std.specs.Ordering.{int_eq}
@@ -43,17 +44,29 @@ zero_in n [] = pos 0
 zero_in n (s ∷ ss) = value_at n s.terms
 
 -- the least remainder
-pub record IsSummary (ss : List Section) (s : Summary) : Type 0 where
+pub record IsSummary (k D : ℕ) (N : ℤ) (ss : List Section) (s : Summary) : Type 0 where
+  pub grid : s.grid ≡ k
+  pub degree : s.degree ≡ D
+  pub upto : s.upto ≡ N
   pub classes : s.classes ≡ length ss
   pub terms : s.terms ≡ terms_in ss
-  pub zero : s.zero ≡ zero_in s.upto ss
+  pub zero : s.zero ≡ zero_in N ss
   pub least : s.sum < 1000000007
   pub multiple : ℤ
   pub sum : sum_in ss ≡ pos s.sum +ℤ (multiple *ℤ pos 1000000007)
 
 abbrev pub summary_lines : Summary → List Line
 summary_lines s =
-    (codes "report" ∷ codes "summary" ∷ []) ∷ (codes "grid" ∷ spelled (pos s.grid) ∷ []) ∷ (codes "degree" ∷ spelled (pos s.degree) ∷ []) ∷ (codes "upto" ∷ spelled s.upto ∷ []) ∷ (codes "classes" ∷ spelled (pos s.classes) ∷ []) ∷ (codes "terms" ∷ spelled (pos s.terms) ∷ []) ∷ (codes "zero" ∷ spelled s.zero ∷ []) ∷ (codes "sum" ∷ spelled (pos s.sum) ∷ []) ∷ (codes "end" ∷ []) ∷ []
+    (codes "report" ∷ codes "summary" ∷ [])
+    ∷ (codes "grid" ∷ spelled (pos s.grid) ∷ [])
+    ∷ (codes "degree" ∷ spelled (pos s.degree) ∷ [])
+    ∷ (codes "upto" ∷ spelled s.upto ∷ [])
+    ∷ (codes "classes" ∷ spelled (pos s.classes) ∷ [])
+    ∷ (codes "terms" ∷ spelled (pos s.terms) ∷ [])
+    ∷ (codes "zero" ∷ spelled s.zero ∷ [])
+    ∷ (codes "sum" ∷ spelled (pos s.sum) ∷ [])
+    ∷ (codes "end" ∷ [])
+    ∷ []
 
 abbrev pub summary_text : Summary → List ℕ
 summary_text s = text_of (summary_lines s)

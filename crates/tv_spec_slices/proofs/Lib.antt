@@ -1,2 +1,4 @@
 mod Values
 mod LegValues
+mod ShapeValues
+mod PathValues

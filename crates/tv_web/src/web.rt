@@ -13,6 +13,7 @@ use crate::edges::{Edges, edges_of};
 use std::alloc::{AllocError, Global};
 use std::marker::Model;
 use tv_lattice::point::Point;
+use tv_spec_plane::limits::{MOST_POINTS, MOST_TRIANGLES};
 use tv_spec_plane::records::{CompactEdge, Corner, OuterEdge, Triple};
 use tv_triangulation::Triangulation;
 
@@ -58,7 +59,7 @@ impl Web {
     /// The points, in the order of the triangulation: their numbers are those that triangles and edges name.
     pub fn points(&self) -> &[Point]
         ensures value { result.now ≡ self.now.points }
-        ensures few { length result.now ≤ 64 }
+        ensures few { length result.now ≤ MOST_POINTS }
     {
         &self.points
     }
@@ -66,7 +67,7 @@ impl Web {
     /// The triangles, turned counter-clockwise, in the order of the triangulation.
     pub fn triangles(&self) -> &[Triple]
         ensures value { result.now ≡ self.now.triangles }
-        ensures few { length result.now ≤ 128 }
+        ensures few { length result.now ≤ MOST_TRIANGLES }
     {
         &self.triangles
     }

@@ -27,7 +27,11 @@ gv_section_lines s = section_lines s.section ++ map integer_line s.integers
 
 abbrev pub gv_lines : List ℤ → ℤ → ℤ → List GvSection → List Line
 gv_lines heights degree upto ss =
-    (codes "report" ∷ codes "gv" ∷ []) ∷ (codes "heights" ∷ map spelled heights) ∷ (codes "degree" ∷ spelled degree ∷ []) ∷ (codes "upto" ∷ spelled upto ∷ []) ∷ (flat_map gv_section_lines ss ++ ((codes "end" ∷ []) ∷ []))
+    (codes "report" ∷ codes "gv" ∷ [])
+    ∷ (codes "heights" ∷ map spelled heights)
+    ∷ (codes "degree" ∷ spelled degree ∷ [])
+    ∷ (codes "upto" ∷ spelled upto ∷ [])
+    ∷ (flat_map gv_section_lines ss ++ ((codes "end" ∷ []) ∷ []))
 
 abbrev pub gv_text : List ℤ → ℤ → ℤ → List GvSection → List ℕ
 gv_text heights degree upto ss = text_of (gv_lines heights degree upto ss)

@@ -14,7 +14,7 @@ use Rattle.tv_laws_series.proofs.Exponents.{above_is, above_adds}
 use Rattle.tv_laws_series.proofs.Listed.{length-listed, at-listed, at-take, at_past}
 use Rattle.tv_laws_series.proofs.Padded.{padded_before, padded_after, scaled_is}
 use Rattle.tv_laws_series.proofs.SeriesFrom.{from_is, same_terms, known-sum, from-sum, from-product}
-use Rattle.tv_spec_series.specs.Families.{coefficient}
+use Rattle.tv_laws_series.specs.Coefficients.{coefficient}
 
 coefficient_is : {A : Type 0} (r : Operations A) (t : Terms A) (n : ℤ) → coefficient r t n ≡ (if int_lt n t.low then r.nought else at r t.coefficients (above t.low n))
 unfolding coefficient

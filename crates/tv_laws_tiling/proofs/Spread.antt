@@ -1,10 +1,9 @@
--- Points are all on one line, or three of them are not.
+-- Where points are not all on one line, three of them are not.
 use Rattle.std.proofs.Common.{◌≡◌, ◌≢◌, ℕ, zero, suc, ◌<◌, ℤ, pos, List, length, ◌⊎◌, inl, inr, sym, arith, subst}
 use Rattle.std.proofs.lemmas.Int.{ints}
 use Rattle.std.proofs.lemmas.Bool.{cases_eq}
 use Rattle.tv_lemmas.proofs.Signs.{sign}
 use Rattle.tv_spec_plane.specs.Plane.{Point, at, turn}
-use Rattle.tv_hull.specs.Points.{IsFlat}
 use Rattle.tv_laws_tiling.specs.Points.{SpansPlane}
 
 -- what holds of each number below n, or some number below n where the other holds
@@ -41,9 +40,19 @@ point : (ps : List Point) (i : ℕ) → FlatPoint ps i ⊎ SpreadPoint ps i
 unfolding FlatPoint SpreadPoint
 point ps i = each_or_some (FlatPair ps i) (SpreadPair ps i) (pair ps i) (length ps)
 
-pub not_flat-spread : (ps : List Point) → (IsFlat ps → ⊥) → SpansPlane ps
+-- three listed points that are not on a line
+pub record HasThree (ps : List Point) : Type 0 where
+  pub a : ℕ
+  pub b : ℕ
+  pub c : ℕ
+  pub a_listed : a < length ps
+  pub b_listed : b < length ps
+  pub c_listed : c < length ps
+  pub turned : turn (at ps a) (at ps b) (at ps c) ≢ pos 0
+
+pub spans-three : (ps : List Point) → SpansPlane ps → HasThree ps
 unfolding FlatPair SpreadPair FlatPoint SpreadPoint
-not_flat-spread ps not_flat = elim (each_or_some (FlatPoint ps) (SpreadPoint ps) (point ps) (length ps)) [
-  | inl flat ↦ absurd (not_flat (λ i j k li lj lk. flat i li j lj k lk))
+spans-three ps spans = elim (each_or_some (FlatPoint ps) (SpreadPoint ps) (point ps) (length ps)) [
+  | inl flat ↦ absurd (spans (λ i j k li lj lk. flat i li j lj k lk))
   | inr some ↦ record { a = some.0; b = some.2.0; c = some.2.2.0; a_listed = some.1; b_listed = some.2.1; c_listed = some.2.2.1; turned = some.2.2.2 }
 ]
