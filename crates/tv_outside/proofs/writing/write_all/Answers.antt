@@ -1,4 +1,4 @@
-use Rattle.std.proofs.Common.{◌<◌, refl, arith}
+use Rattle.std.proofs.Common.{refl, arith}
 use Rattle.tv_outside.proofs.WriteSteps.{WritesSoFar-further}
 use Rattle.tv_outside.proofs.writing.write_all.Goals as goal
 
