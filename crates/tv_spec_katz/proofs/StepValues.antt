@@ -22,6 +22,11 @@ units : map unit (place (pos 1 ∷ []) (pos 0 ∷ []) (pos 0) ∷ place (pos 1 �
 unfolding unit
 units = refl
 
+-- nor is one there where a degree or an entry is below 0
+no_units : map unit (record { degree = negsuc 0; class = pos 0 ∷ []; exponent = pos 0 } ∷ record { degree = pos 0; class = negsuc 0 ∷ []; exponent = pos 0 } ∷ record { degree = pos 0; class = pos 0 ∷ pos 1 ∷ []; exponent = pos 0 } ∷ []) ≡ pos 0 ∷ pos 0 ∷ pos 0 ∷ []
+unfolding unit
+no_units = refl
+
 quartic : List Integer
 quartic = record { class = pos 1 ∷ []; genus = 4; value = negsuc 0 } ∷ []
 

@@ -17,9 +17,9 @@ use Rattle.tv_spec_text.specs.Reports.{Term, Section, series_text}
 use Rattle.tv_spec_reports.specs.IntegerLines.{GenusValue, GvSection, gv_lines, gv_text}
 use Rattle.tv_spec_reports.specs.Boxes.{boxes_text}
 use Rattle.tv_spec_reports.specs.Grids.{grid_text}
-use Rattle.tv_spec_reports.specs.Summaries.{Summary, IsSummary, summary_text}
+use Rattle.tv_spec_reports.specs.Summaries.{Summary, terms_in, sum_in, zero_in, IsSummary, summary_text}
 use Rattle.tv_spec_reports.specs.Grammar.{GvData, IsWideValue, GvTermFits, GvFits, SpellsGv, IsGv}
-use Rattle.tv_spec_reports.specs.Verdicts.{verdict_text, differs_line}
+use Rattle.tv_spec_reports.specs.Verdicts.{verdict_text, differs_line, majorant_line, long_report_line, report_line}
 
 two_boxes : boxes_text one_corner (pos 0 ∷ pos 0 ∷ pos 0 ∷ []) (pos 2) ≡ codes "report boxes\nheights 0 0 0\nchi 2\nclass 0 0 0 0\nsign 1\nconfig\nbox 0 1 0 0\nbox 0 0 0 0\nconfig\nbox 0 0 0 0\nbox 0 0 0 1\nconfig\nbox 0 0 0 0\nbox 0 0 1 0\nend\n"
 unfolding one_corner fillings assignments choices compact outer edge_ref edge_ratio turn diagrams diagrams_within cube sublists_of row_cost rows_cost overlap_cost overlaps line_text digits
@@ -128,12 +128,30 @@ unit_grid : grid_text 1 ≡ codes "tv 1\npoint 0 0\npoint 1 0\npoint 0 1\npoint 
 unfolding line_text digits
 unit_grid = refl
 
+-- that of side 2: eight triangles, two to a square, by rows of squares
+two_grid : grid_text 2 ≡ codes "tv 1\npoint 0 0\npoint 1 0\npoint 2 0\npoint 0 1\npoint 1 1\npoint 2 1\npoint 0 2\npoint 1 2\npoint 2 2\ntriangle 0 1 4\ntriangle 0 4 3\ntriangle 1 2 5\ntriangle 1 5 4\ntriangle 3 4 7\ntriangle 3 7 6\ntriangle 4 5 8\ntriangle 4 8 7\nheights 0 1 4 1 1 3 4 3 4\nend\n"
+unfolding line_text digits
+two_grid = refl
+
 -- the full series of the unit grid through degree 1 and exponent 4
 unit_grid_sections : List Section
 unit_grid_sections =
     record { degree = pos 0; entries = pos 0 ∷ pos 0 ∷ pos 0 ∷ pos 0 ∷ []; terms = term (pos 0) (pos 1) ∷ term (pos 1) (negsuc 1) ∷ term (pos 2) (pos 7) ∷ term (pos 3) (negsuc 17) ∷ term (pos 4) (pos 47) ∷ [] }
     ∷ record { degree = pos 1; entries = negsuc 0 ∷ pos 1 ∷ pos 1 ∷ negsuc 0 ∷ []; terms = term (pos 1) (pos 1) ∷ term (pos 2) (negsuc 3) ∷ term (pos 3) (pos 14) ∷ term (pos 4) (negsuc 41) ∷ [] }
     ∷ []
+
+-- nine terms with the sum 4, and of class zero 7 at exponent 2, 47 at 4 and none at 5
+unit_grid_terms : terms_in unit_grid_sections ≡ 9
+unfolding unit_grid_sections
+unit_grid_terms = refl
+
+unit_grid_sum : sum_in unit_grid_sections ≡ pos 4
+unfolding unit_grid_sections term
+unit_grid_sum = refl
+
+unit_grid_zero : zero_in (pos 2) unit_grid_sections ∷ zero_in (pos 4) unit_grid_sections ∷ zero_in (pos 5) unit_grid_sections ∷ zero_in (pos 4) [] ∷ [] ≡ pos 7 ∷ pos 47 ∷ pos 0 ∷ pos 0 ∷ []
+unfolding unit_grid_sections term
+unit_grid_zero = refl
 
 unit_grid_summary : Summary
 unit_grid_summary = record { grid = 1; degree = 1; upto = pos 4; classes = 2; terms = 9; zero = pos 47; sum = 4 }
@@ -158,3 +176,12 @@ yes = refl
 differing : line_text (differs_line (pos 5) (pos 6) (pos 5) (negsuc 0 ∷ pos 1 ∷ negsuc 0 ∷ pos 1 ∷ [])) ≡ codes "refused differs 5 6 5 class -1 1 -1 1\n"
 unfolding line_text digits
 differing = refl
+
+-- the other lines of refusals
+wide_majorant : line_text (majorant_line (negsuc 2) (negsuc 0 ∷ pos 1 ∷ negsuc 0 ∷ pos 1 ∷ [])) ≡ codes "refused wide majorant -3 class -1 1 -1 1\n"
+unfolding line_text digits
+wide_majorant = refl
+
+refused_reports : line_text long_report_line ∷ line_text (report_line 12) ∷ [] ≡ codes "refused report 1\n" ∷ codes "refused report 2 12\n" ∷ []
+unfolding line_text digits
+refused_reports = refl
