@@ -8,12 +8,10 @@ use Rattle.tv_spec_plane.specs.Web.{Web}
 use Rattle.tv_cells.specs.declared.legs.Legs.{Legs}
 use Rattle.tv_spec_boxes.specs.Assignments.{Assignment, all_legs, no_legs, edge_costs, overlaps_of}
 use Rattle.tv_spec_boxes.specs.Configurations.{boxes_left}
-use Rattle.tv_assignment.specs.declared.key.Key.{Key}
 use Rattle.tv_assignment.specs.declared.asked.Most.{Most}
 use Rattle.tv_assignment.specs.declared.fault.PrepareFault.{PrepareFault}
 use Rattle.tv_assignment.specs.declared.fault.PrepareFault.TheVariants.{Wide, Memory}
 use Rattle.tv_assignment.specs.Asked.{IsAsked, AreAsked, IsRaised, IsWideAt, IsWideBy}
-use Rattle.tv_assignment.specs.Kept.{legs_by}
 use Rattle.tv_assignment.proofs.Inserted.{each-insert}
 
 module _ (w : Web) (n : ℤ) (all : List Assignment) where
@@ -28,19 +26,19 @@ module _ (w : Web) (n : ℤ) (all : List Assignment) where
     boxes : (costs overlaps : ℤ) → start ≡ costs -ℤ overlaps → pos left ≤ℤ ((n -ℤ costs) +ℤ overlaps)
     boxes costs overlaps e = omega (arith, ints)
 
-  pub still-asked : (es new : List (Key × Most)) (key : Key) (most : Most) (legs : Legs) → legs_by key ≡ legs → IsAsked w n all legs most → IsRaised es key most new → AreAsked w n all es → AreAsked w n all new
-  still-asked es new key most legs of here raised asked = elim raised [
+  pub still-asked : (es new : List (Legs × Most)) (legs : Legs) (most : Most) → IsAsked w n all legs most → IsRaised es legs most new → AreAsked w n all es → AreAsked w n all new
+  still-asked es new legs most here raised asked = elim raised [
     | inl stays ↦ subst (AreAsked w n all) (sym stays) asked
-    | inr put ↦ subst (AreAsked w n all) (sym put) (each-insert (IsAsked w n all) es key most (subst (λ ls. IsAsked w n all ls most) (sym of) here) asked)
+    | inr put ↦ subst (AreAsked w n all) (sym put) (each-insert (IsAsked w n all) es legs most here asked)
   ]
 
   -- what stands at a place of the entries
-  pub entry-asked : (es : List (Key × Most)) (i : ℕ) (key : Key) (most : Most) (legs : Legs) → slice_get es i ≡ Some (key, most) → legs ≡ legs_by key → AreAsked w n all es → IsAsked w n all legs most
-  entry-asked [] i key most legs read of asked = absurd (let e : None ≡ Some (key, most) = read in cc)
-  entry-asked (e ∷ es) zero key most legs read of asked =
-      let one : e ≡ (key, most) = let both : Some e ≡ Some (key, most) = read in cc in
-      subst (λ ls. IsAsked w n all ls most) (sym of) (subst (λ f. IsAsked w n all (legs_by f.0) f.1) one asked.0)
-  entry-asked (e ∷ es) (suc i) key most legs read of asked = entry-asked es i key most legs read of asked.1
+  pub entry-asked : (es : List (Legs × Most)) (i : ℕ) (legs : Legs) (most : Most) → slice_get es i ≡ Some (legs, most) → AreAsked w n all es → IsAsked w n all legs most
+  entry-asked [] i legs most read asked = absurd (let e : None ≡ Some (legs, most) = read in cc)
+  entry-asked (e ∷ es) zero legs most read asked =
+      let one : e ≡ (legs, most) = let both : Some e ≡ Some (legs, most) = read in cc in
+      subst (λ f. IsAsked w n all f.0 f.1) one asked.0
+  entry-asked (e ∷ es) (suc i) legs most read asked = entry-asked es i legs most read asked.1
 
   -- more boxes than are asked for at a corner are too many at the assignment that asks for them
   pub wide-by : {A : Type 0} (r : Operations A) (legs : Legs) (most : Most) (fault : PrepareFault) → IsAsked w n all legs most → IsWideAt r legs most fault → IsWideBy r w n all fault

@@ -13,10 +13,8 @@ use Rattle.tv_laws_series.specs.Terms.{Terms, upto}
 use Rattle.tv_laws_series.proofs.Listed.{length-listed}
 use Rattle.tv_cells.specs.declared.legs.Legs.{Legs}
 use Rattle.tv_vertex.specs.Corners.{extras_times, corner_terms}
-use Rattle.tv_assignment.specs.declared.key.Key.{Key}
-use Rattle.tv_assignment.specs.Asked.{same}
 use Rattle.tv_assignment.specs.Terms.{IsCornerFrom}
-use Rattle.tv_assignment.specs.Kept.{legs_by, IsKept, AreKept, IsPlaceOf}
+use Rattle.tv_assignment.specs.Kept.{same, IsKept, AreKept, IsPlaceOf}
 use Rattle.tv_assignment.proofs.Inserted.{same-legs, each-insert}
 
 module _ {A : Type 0} (r : Operations A) where
@@ -32,37 +30,37 @@ module _ {A : Type 0} (r : Operations A) where
       let last : upto s ≡ pos from.0 = ap upto from.2 ∙ upto-corner legs from.0 in
       (from.0, (let l : pos k ≤ℤ pos from.0 = rw last at h in omega (arith, ints)), from.2)
 
-  -- what stands where a key is found
-  kept-at : (es : List (Key × Terms A)) (key : Key) (i : ℕ) → i < length es → same key (get_or (keys_of es) i key) ≡ true → AreKept r es → IsPlaceOf r (legs_by key) 0 (values_of es) i
-  kept-at [] key i h found kept = absurd (omega arith)
-  kept-at (e ∷ es) key zero h found kept = (e.1, refl, subst (λ legs. IsCornerFrom r legs 0 e.1) (sym (same-legs key e.0 found)) kept.0)
-  kept-at (e ∷ es) key (suc i) h found kept = kept-at es key i (omega arith) found kept.1
+  -- what stands where legs are found
+  kept-at : (es : List (Legs × Terms A)) (legs : Legs) (i : ℕ) → i < length es → same legs (get_or (keys_of es) i legs) ≡ true → AreKept r es → IsPlaceOf r legs 0 (values_of es) i
+  kept-at [] legs i h found kept = absurd (omega arith)
+  kept-at (e ∷ es) legs zero h found kept = (e.1, refl, subst (λ ls. IsCornerFrom r ls 0 e.1) (sym (same-legs legs e.0 found)) kept.0)
+  kept-at (e ∷ es) legs (suc i) h found kept = kept-at es legs i (omega arith) found kept.1
 
-  pub found-place : (es : List (Key × Terms A)) (key : Key) (legs : Legs) (k i : ℕ) (s : Terms A) → legs_by key ≡ legs → Some i ≡ position (same key) (keys_of es) → AreKept r es → slice_get (values_of es) i ≡ Some s → pos k ≤ℤ upto s → IsPlaceOf r legs k (values_of es) i
-  found-place es key legs k i s of found kept read far =
-      let place = position-Some (same key) (keys_of es) i key (sym found) in
+  pub found-place : (es : List (Legs × Terms A)) (legs : Legs) (k i : ℕ) (s : Terms A) → Some i ≡ position (same legs) (keys_of es) → AreKept r es → slice_get (values_of es) i ≡ Some s → pos k ≤ℤ upto s → IsPlaceOf r legs k (values_of es) i
+  found-place es legs k i s found kept read far =
+      let place = position-Some (same legs) (keys_of es) i legs (sym found) in
       let within : i < length es = let number = length-map es (λ e. e.0) in omega (arith, place.0) in
-      let at = kept-at es key i within place.1 kept in
+      let at = kept-at es legs i within place.1 kept in
       let one : at.0 ≡ s = let both : Some at.0 ≡ Some s = sym at.1 ∙ read in cc in
-      (s, read, far-enough legs k s (subst (λ t. IsCornerFrom r legs 0 t) one (subst (λ l. IsCornerFrom r l 0 at.0) of at.2)) far)
+      (s, read, far-enough legs k s (subst (λ t. IsCornerFrom r legs 0 t) one at.2) far)
 
-  computed : (key : Key) (legs : Legs) (k : ℕ) (s : Terms A) → legs_by key ≡ legs → s ≡ corner_terms r legs k → IsKept r (key, s)
-  computed key legs k s of is = (k, omega arith, is ∙ ap (λ l. corner_terms r l k) (sym of))
+  computed : (copy legs : Legs) (k : ℕ) (s : Terms A) → copy ≡ legs → s ≡ corner_terms r legs k → IsKept r (copy, s)
+  computed copy legs k s of is = (k, omega arith, is ∙ ap (λ l. corner_terms r l k) (sym of))
 
   -- a series that was put in
-  pub still-kept : (es new : List (Key × Terms A)) (key : Key) (legs : Legs) (k : ℕ) (s : Terms A) → legs_by key ≡ legs → s ≡ corner_terms r legs k → new ≡ insert_entry same es key s → AreKept r es → AreKept r new
-  still-kept es new key legs k s of is put kept = subst (AreKept r) (sym put) (each-insert (λ of s. IsCornerFrom r of 0 s) es key s (computed key legs k s of is) kept)
+  pub still-kept : (es new : List (Legs × Terms A)) (copy legs : Legs) (k : ℕ) (s : Terms A) → copy ≡ legs → s ≡ corner_terms r legs k → new ≡ insert_entry same es copy s → AreKept r es → AreKept r new
+  still-kept es new copy legs k s of is put kept = subst (AreKept r) (sym put) (each-insert (λ of s. IsCornerFrom r of 0 s) es copy s (computed copy legs k s of is) kept)
 
-  inserted-onto : (b : Bool) (e : Key × Terms A) (es new : List (Key × Terms A)) (s : Terms A) (i : ℕ) → slice_get (values_of new) i ≡ Some s → slice_get (values_of (cond b ((e.0, s) ∷ es) (e ∷ new))) (cond (not b) (1 + i) 0) ≡ Some s
+  inserted-onto : (b : Bool) (e : Legs × Terms A) (es new : List (Legs × Terms A)) (s : Terms A) (i : ℕ) → slice_get (values_of new) i ≡ Some s → slice_get (values_of (cond b ((e.0, s) ∷ es) (e ∷ new))) (cond (not b) (1 + i) 0) ≡ Some s
   inserted-onto true e es new s i rest = refl
   inserted-onto false e es new s i rest = let up : 1 + i ≡ suc i = omega arith in rw up rest
 
-  inserted-at : (es : List (Key × Terms A)) (key : Key) (s : Terms A) → slice_get (values_of (insert_entry same es key s)) (position_or_len (same key) (keys_of es)) ≡ Some s
-  inserted-at [] key s = refl
-  inserted-at (e ∷ es) key s = inserted-onto (same key e.0) e es (insert_entry same es key s) s (position_or_len (same key) (keys_of es)) (inserted-at es key s)
+  inserted-at : (es : List (Legs × Terms A)) (legs : Legs) (s : Terms A) → slice_get (values_of (insert_entry same es legs s)) (position_or_len (same legs) (keys_of es)) ≡ Some s
+  inserted-at [] legs s = refl
+  inserted-at (e ∷ es) legs s = inserted-onto (same legs e.0) e es (insert_entry same es legs s) s (position_or_len (same legs) (keys_of es)) (inserted-at es legs s)
 
-  pub put-place : (es new : List (Key × Terms A)) (key : Key) (legs : Legs) (k i : ℕ) (s : Terms A) → s ≡ corner_terms r legs k → new ≡ insert_entry same es key s → i ≡ position_or_len (same key) (keys_of es) → IsPlaceOf r legs k (values_of new) i
-  put-place es new key legs k i s is put at = (s, rw (put, at) (inserted-at es key s), (k, omega arith, is))
+  pub put-place : (es new : List (Legs × Terms A)) (copy legs : Legs) (k i : ℕ) (s : Terms A) → s ≡ corner_terms r legs k → new ≡ insert_entry same es copy s → i ≡ position_or_len (same copy) (keys_of es) → IsPlaceOf r legs k (values_of new) i
+  put-place es new copy legs k i s is put at = (s, rw (put, at) (inserted-at es copy s), (k, omega arith, is))
 
   -- what stands at the place of a series
   pub read-place : (legs : Legs) (k : ℕ) (ss : List (Terms A)) (i : ℕ) (s : Terms A) → IsPlaceOf r legs k ss i → slice_get ss i ≡ Some s → IsCornerFrom r legs k s

@@ -1,54 +1,26 @@
 -- A sum over the edges and their diagrams, edge by edge: what is added and what is left make the whole.
 --
--- sum_on f es a       == the sum of f over the edges with their diagrams
 -- IsSummed f m es a k total == what is left from edge k on and the total make the sum, and neither is far from 0: the
 --                        total is at most m for each cell of the diagrams before k
 use Rattle.std.proofs.Common.{◌≡◌, ℕ, zero, suc, ◌+◌, ◌*◌, ◌<◌, ◌≤◌, List, [], ◌∷◌, length, drop, get_or, refl, sym, ap, ◌∙◌, arith, add-mul, w64}
 use mir.Val.{to_z, of_z}
 use Rattle.std.proofs.lemmas.List.{get_or_read}
 use Rattle.std.proofs.Math.Nat.{mul-le-mul_right}
-use Rattle.std.specs.Prelude.{ℤ, pos, ◌+ℤ◌, ◌*ℤ◌, unsigned_abs}
+use Rattle.std.specs.Prelude.{ℤ, pos, ◌+ℤ◌, unsigned_abs}
 use Rattle.std.proofs.lemmas.Int.{ints}
 use Rattle.tv_spec_plane.specs.declared.records.CompactEdge.{CompactEdge}
-use Rattle.tv_spec_plane.specs.Web.{Web, normal_a, normal_b}
 use Rattle.tv_partition.specs.Rows.{size}
-use Rattle.tv_cells.specs.Costs.{edge_cost}
 use Rattle.tv_degrees.specs.Edges.{no_edge}
-use Rattle.tv_spec_boxes.specs.Assignments.{Rows, Assignment, costs_on, twist_on}
+use Rattle.tv_spec_boxes.specs.Assignments.{Rows, Assignment, sum_on}
 use Rattle.tv_assignment.specs.Terms.{cells_of}
 
-unfoldable pub sum_on : (CompactEdge → Rows → ℤ) → List CompactEdge → Assignment → ℤ
-sum_on f [] a = pos 0
-sum_on f (e ∷ es) [] = pos 0
-sum_on f (e ∷ es) (d ∷ a) = f e d +ℤ sum_on f es a
-
-abbrev pub cost_by : Web → CompactEdge → Rows → ℤ
-cost_by w e d = edge_cost d (normal_a w e) (normal_b w e)
-
-abbrev pub twist_by : Web → CompactEdge → Rows → ℤ
-twist_by w e d = normal_a w e *ℤ pos (size d)
-
-pub costs-are : (w : Web) (es : List CompactEdge) (a : Assignment) → sum_on (cost_by w) es a ≡ costs_on w es a
-unfolding sum_on
-costs-are w [] a = refl
-costs-are w (e ∷ es) [] = refl
-costs-are w (e ∷ es) (d ∷ a) = ap (λ z. cost_by w e d +ℤ z) (costs-are w es a)
-
-pub twists-are : (w : Web) (es : List CompactEdge) (a : Assignment) → sum_on (twist_by w) es a ≡ twist_on w es a
-unfolding sum_on
-twists-are w [] a = refl
-twists-are w (e ∷ es) [] = refl
-twists-are w (e ∷ es) (d ∷ a) = ap (λ z. twist_by w e d +ℤ z) (twists-are w es a)
-
 sum-step : (f : CompactEdge → Rows → ℤ) (es : List CompactEdge) (a : Assignment) (k : ℕ) → k < length es → k < length a → sum_on f (drop k es) (drop k a) ≡ f (get_or es k no_edge) (get_or a k []) +ℤ sum_on f (drop (suc k) es) (drop (suc k) a)
-unfolding sum_on
 sum-step f [] a k h i = absurd (omega arith)
 sum-step f (e ∷ es) [] k h i = absurd (omega arith)
 sum-step f (e ∷ es) (d ∷ a) zero h i = refl
 sum-step f (e ∷ es) (d ∷ a) (suc k) h i = sum-step f es a k (omega arith) (omega arith)
 
 sum-past : (f : CompactEdge → Rows → ℤ) (es : List CompactEdge) (a : Assignment) (k : ℕ) → length es ≤ k → sum_on f (drop k es) (drop k a) ≡ pos 0
-unfolding sum_on
 sum-past f [] a zero h = refl
 sum-past f [] a (suc k) h = refl
 sum-past f (e ∷ es) a zero h = absurd (omega arith)

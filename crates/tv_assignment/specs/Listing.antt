@@ -6,9 +6,10 @@
 -- degrees_of w              == the degrees of the compact edges, in their order
 use Rattle.std.specs.Prelude.{◌≡◌, ℕ, ◌-◌, ◌*◌, ◌<◌, List, [], ◌∷◌, ◌++◌, map, cond, length, nat_le, slice_index_or}
 use Rattle.std.specs.List.{flat_map}
+use Rattle.tv_lemmas.specs.Naturals.{as_natural}
 use Rattle.tv_spec_plane.specs.Web.{Web, compact, edge_degree}
 use Rattle.tv_partition.specs.Rows.{diagrams}
-use Rattle.tv_spec_boxes.specs.Assignments.{Rows, Assignment, choices, weight}
+use Rattle.tv_spec_boxes.specs.Assignments.{Rows, Assignment, choices}
 
 unfoldable pub behind : List Rows → List Assignment → List Assignment
 behind front lists = map (λ a. front ++ a) lists
@@ -20,4 +21,4 @@ abbrev pub AreSizes : List ℕ → Type 0
 AreSizes sizes = (k : ℕ) → k < length sizes → slice_index_or sizes k 0 ≡ k
 
 abbrev pub degrees_of : Web → List ℕ
-degrees_of w = map (λ e. weight (edge_degree w e)) (compact w)
+degrees_of w = map (λ e. as_natural (edge_degree w e)) (compact w)

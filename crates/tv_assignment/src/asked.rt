@@ -3,15 +3,16 @@
 ghost use Rattle.std.specs.Prelude.{◌≡◌, ◌<◌, ◌≤◌, unsigned_abs, length, IfOk, OnOk, IsSomeAnd};
 ghost use Rattle.std.specs.List.{AllByRecursion};
 ghost use Rattle.indexmap.specs.IndexMap.{get};
-ghost use Rattle.tv_assignment.specs.Asked.{same, IsOn, AreAsked, IsRaised};
+ghost use Rattle.tv_assignment.specs.Kept.{same};
+ghost use Rattle.tv_assignment.specs.Asked.{IsOn, AreAsked, IsRaised};
 
 use crate::assignment::Assignment;
 use crate::costs::start_of;
-use crate::key::{Key, key_of};
 use crate::legs::all_legs;
 use crate::series::boxes_left;
 use indexmap::IndexMap;
 use std::alloc::{AllocError, AllocFailed, Global};
+use tv_cells::legs::Legs;
 use tv_degrees::grade::GradedWeb;
 
 /// The greatest number of boxes that is asked for, and the number of an assignment that asks for it.
@@ -27,7 +28,7 @@ pub(crate) fn asked_by(
     web: &GradedWeb,
     all: &[Assignment],
     n: i64,
-) -> Result<IndexMap<Key, Most>, AllocError>
+) -> Result<IndexMap<Legs, Most>, AllocError>
     requires on { AllByRecursion (IsOn web.now) all.now }
     requires exponent { unsigned_abs n ≤ 100000000 }
     ensures { IfOk result (λ asked. AreAsked web.now n all.now asked.entries) }
@@ -46,7 +47,7 @@ fn ask(
     all: &[Assignment],
     k: usize,
     n: i64,
-    asked: &mut IndexMap<Key, Most>,
+    asked: &mut IndexMap<Legs, Most>,
 ) -> Result<(), AllocError>
     requires on { AllByRecursion (IsOn web.now) all.now }
     requires exponent { unsigned_abs n ≤ 100000000 }
@@ -62,21 +63,21 @@ fn ask(
     }
     let boxes = boxes_left(start, n);
     for corner in &legs {
-        raise(asked, key_of(alloc, corner)?, Most { boxes, by: k })?;
+        raise(asked, corner, Most { boxes, by: k })?;
     }
     Ok(())
 }
 
 // Puts that number in where less or nothing is asked for.
-fn raise(asked: &mut IndexMap<Key, Most>, key: Key, most: Most) -> Result<(), AllocError>
-    ensures raised { OnOk result (IsRaised asked.old.entries key most asked.new.entries) }
-    ensures reached { OnOk result (IsSomeAnd (get same asked.new key) (λ m. most.boxes ≤ m.boxes)) }
+fn raise(asked: &mut IndexMap<Legs, Most>, legs: &Legs, most: Most) -> Result<(), AllocError>
+    ensures raised { OnOk result (IsRaised asked.old.entries legs.now most asked.new.entries) }
+    ensures reached { OnOk result (IsSomeAnd (get same asked.new legs.now) (λ m. most.boxes ≤ m.boxes)) }
 {
-    if let Some(known) = asked.get(&key) {
+    if let Some(known) = asked.get(legs) {
         if known.boxes >= most.boxes {
             return Ok(());
         }
     }
-    asked.insert(key, most)?;
+    asked.insert(legs.clone()?, most)?;
     Ok(())
 }

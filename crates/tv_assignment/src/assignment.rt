@@ -1,8 +1,7 @@
 //! A diagram for each compact edge of a web. It knows no web.
 
-ghost use Rattle.std.specs.Prelude.{◌≡◌, IfOk};
+ghost use Rattle.std.specs.Prelude.{◌≡◌};
 
-use std::alloc::{AllocError, Global};
 use std::marker::Model;
 use tv_partition::diagram::Diagram;
 
@@ -34,12 +33,4 @@ impl Assignment {
     {
         self.diagrams.as_slice()
     }
-}
-
-/// Another diagram with the same rows.
-pub(crate) fn copy_of(alloc: Global, diagram: &Diagram) -> Result<Diagram, AllocError>
-    ensures { IfOk result (λ copy. copy ≡ diagram.now) }
-{
-    let rows = diagram.rows().to_vec(alloc)?;
-    Ok(Diagram::of_rows(rows))
 }

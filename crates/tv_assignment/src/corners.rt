@@ -6,7 +6,6 @@ ghost use Rattle.tv_ring.specs.Operations.{limit};
 ghost use Rattle.tv_cells.specs.Extras.{count};
 ghost use Rattle.tv_assignment.specs.Kept.{IsPlaceOf};
 
-use crate::key::{Key, key_of};
 use indexmap::IndexMap;
 use std::alloc::Global;
 use std::marker::Model;
@@ -18,7 +17,7 @@ use tv_vertex::corner_series;
 /// The series that were asked for, each as far as it was asked for at most.
 #[derive(Drop)]
 pub struct Corners<C: Ring> {
-    kept: IndexMap<Key, Series<C>>,
+    kept: IndexMap<Legs, Series<C>>,
 }
 
 impl<C: Ring> Model for Corners<C> {
@@ -59,14 +58,13 @@ impl<C: Ring> Corners<C> {
         ensures wide { IsErrOf result RingFault.Wide → (i : ℕ) × (i ≤ k) × (limit < count legs.now i * C.ring.size C.ring.unit) }
         ensures err { OnErr result (self.new ≡ self.old) }
     {
-        let key = key_of(alloc, legs)?;
-        if let Some(place) = self.kept.get_index_of(&key) {
+        if let Some(place) = self.kept.get_index_of(legs) {
             if self.kept[place].upto() >= i64::from(k) {
                 return Ok(place);
             }
         }
         let series = corner_series(alloc, legs, k)?;
-        let (place, _) = self.kept.insert_full(key, series)?;
+        let (place, _) = self.kept.insert_full(legs.clone()?, series)?;
         Ok(place)
     }
 

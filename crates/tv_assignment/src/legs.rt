@@ -5,7 +5,7 @@ ghost use Rattle.std.specs.Prelude.{◌≡◌, ◌≤◌, [], IfOk, length};
 ghost use Rattle.tv_spec_plane.specs.Web.{corners};
 ghost use Rattle.tv_spec_boxes.specs.Assignments.{all_legs, legs_of, rows_at, no_legs};
 
-use crate::assignment::{Assignment, copy_of};
+use crate::assignment::Assignment;
 use std::alloc::{AllocError, Global};
 use tv_cells::legs::Legs;
 use tv_degrees::grade::GradedWeb;
@@ -51,7 +51,7 @@ fn leg(alloc: Global, assignment: &Assignment, edge: EdgeRef) -> Result<Diagram,
 {
     match edge {
         EdgeRef::Compact(e) => match assignment.diagrams().get(e as usize) {
-            Some(diagram) => copy_of(alloc, diagram),
+            Some(diagram) => diagram.clone(),
             None => Ok(Diagram::empty(alloc)),
         },
         EdgeRef::Outer(_) => Ok(Diagram::empty(alloc)),

@@ -7,7 +7,6 @@ mod assignment;
 mod corners;
 mod costs;
 mod fault;
-mod key;
 mod legs;
 mod listing;
 mod prepare;

@@ -4,10 +4,11 @@
 ghost use Rattle.std.specs.Prelude.{◌≡◌, ◌<◌, ◌≤◌, ◌+◌, ◌*◌, ◌-◌, ◌++◌, ◌∷◌, [], true, false, map, length, IfOk, OnOk, MatchOption, nat_le};
 ghost use Rattle.tv_spec_plane.specs.Web.{compact, edge_degree};
 ghost use Rattle.tv_degrees.specs.Edges.{edge_at};
-ghost use Rattle.tv_spec_boxes.specs.Assignments.{assignments, choices, weight};
+ghost use Rattle.tv_spec_boxes.specs.Assignments.{assignments, choices};
+ghost use Rattle.tv_lemmas.specs.Naturals.{as_natural};
 ghost use Rattle.tv_assignment.specs.Listing.{behind, sized, degrees_of, AreSizes};
 
-use crate::assignment::{Assignment, copy_of};
+use crate::assignment::Assignment;
 use std::alloc::{AllocError, Global};
 use tv_degrees::grade::GradedWeb;
 use tv_partition::all::{Diagrams, all_of};
@@ -39,7 +40,7 @@ fn degrees_of(alloc: Global, web: &GradedWeb) -> Result<Vec<u64>, AllocError>
 
 fn degree_at(web: &GradedWeb, e: u32) -> u64
     requires { e < length (compact web.now) }
-    ensures { result ≡ weight (edge_degree web.now (edge_at web.now e)) }
+    ensures { result ≡ as_natural (edge_degree web.now (edge_at web.now e)) }
 {
     web.degree_of(e) as u64
 }
@@ -127,7 +128,7 @@ fn push_behind(
     ensures all { OnOk result (all.new.items ≡ all.old.items ++ behind (front.old.items ++ diagram.now ∷ []) (choices later.now left)) }
     ensures front { OnOk result (front.new.items ≡ front.old.items) }
 {
-    front.push(copy_of(*all.allocator(), diagram)?)?;
+    front.push(diagram.clone()?)?;
     push_choices(all, front, sizes, later, left)?;
     let _ = front.pop();
     Ok(())
@@ -149,11 +150,7 @@ fn left_beside(left: u32, degree: u64, size: u32) -> Option<u32>
 fn push_copy(all: &mut Vec<Assignment>, front: &[Diagram]) -> Result<(), AllocError>
     ensures { OnOk result (all.new.items ≡ all.old.items ++ front.now ∷ []) }
 {
-    let alloc = *all.allocator();
-    let mut diagrams = Vec::new(alloc);
-    for diagram in front {
-        diagrams.push(copy_of(alloc, diagram)?)?;
-    }
+    let diagrams = front.to_vec(*all.allocator())?;
     all.push(Assignment::new(diagrams))?;
     Ok(())
 }

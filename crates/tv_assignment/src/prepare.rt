@@ -33,8 +33,8 @@ impl<C: Ring> Corners<C> {
     {
         let asked = asked_by(alloc, web, all, n)?;
         for i in 0..asked.len() {
-            if let Some((key, most)) = asked.get_index(i) {
-                self.compute(alloc, &key.legs(alloc)?, most)?;
+            if let Some((legs, most)) = asked.get_index(i) {
+                self.compute(alloc, legs, most)?;
             }
         }
         Ok(())

@@ -1,31 +1,16 @@
 -- The test of a list of cells and the relation that says that its union with the legs is closed downwards agree.
-use Rattle.std.proofs.Common.{◌≡◌, ℕ, suc, zero, ◌+◌, ◌-◌, ◌≤◌, Bool, true, false, ◌||◌, List, [], ◌∷◌, nat_eq, nat_lt, arith, refl, sym, ◌∙◌, ap, inl, inr}
-use Rattle.std.specs.Prelude.{IsTrue, slice_index, ◌↔◌}
+use Rattle.std.proofs.Common.{◌≡◌, ℕ, suc, zero, ◌+◌, ◌-◌, Bool, true, false, ◌||◌, List, [], ◌∷◌, nat_eq, nat_lt, arith, refl, sym, ◌∙◌, ap, inl, inr}
+use Rattle.std.specs.Prelude.{IsTrue, ◌↔◌}
 use Rattle.std.proofs.lemmas.Bool.{and_parts, and_from, or_cases, or_left, or_right, eqb-true, eq-eqb}
 use Rattle.std.proofs.lemmas.Bool.Decides.{nat_tests}
 use Rattle.std.specs.List.{list_any, list_all}
-use Rattle.tv_partition.specs.Rows.{FallsFrom, IsDiagram, has}
+use Rattle.tv_partition.specs.Rows.{has}
+use Rattle.tv_partition.proofs.Shapes.{has-lower_row, has-lower}
 use Rattle.tv_cells.specs.declared.cell.Cell.{Cell}
 use Rattle.tv_cells.specs.declared.legs.Legs.{Legs}
 use Rattle.tv_cells.specs.Cells.{cell, same, rises}
 use Rattle.tv_cells.specs.Extras.{bit, legs_at, in_union, stands, is_extras, IsExtras, IsDownClosed, AreDiagrams}
 use Rattle.tv_cells.proofs.Rising.{same_is, same_itself}
-
-falling_is_diagram : (top : ℕ) (rows : List ℕ) → FallsFrom top rows → IsDiagram rows
-falling_is_diagram top [] f = tt
-falling_is_diagram top (row ∷ rows) f = (f.0, f.2)
-
-rows-fall : (rows : List ℕ) (i : ℕ) → IsDiagram rows → slice_index rows (suc i) ≤ slice_index rows i
-rows-fall [] i d = omega arith
-rows-fall (row ∷ []) zero d = omega arith
-rows-fall (row ∷ next ∷ rows) zero d = d.1.1
-rows-fall (row ∷ rows) (suc i) d = rows-fall rows i (falling_is_diagram row rows d.1)
-
-has-lower_row : (rows : List ℕ) (i j : ℕ) → IsDiagram rows → has rows (suc i) j ≡ true → has rows i j ≡ true
-has-lower_row rows i j d h = let falls = rows-fall rows i d in grind (arith, nat_tests)
-
-has-lower : (rows : List ℕ) (i j : ℕ) → has rows i (suc j) ≡ true → has rows i j ≡ true
-has-lower rows i j h = grind (arith, nat_tests)
 
 some_bit : (a b c : Bool) → nat_lt 0 ((bit a + bit b) + bit c) ≡ (a || (b || c))
 some_bit true true true = refl

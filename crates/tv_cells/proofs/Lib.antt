@@ -7,3 +7,5 @@ pub mod Cubes
 pub mod Diagonals
 pub mod Overlaps
 pub mod Bounded
+pub mod Dropped
+pub mod Inside

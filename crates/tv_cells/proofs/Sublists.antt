@@ -1,13 +1,16 @@
--- The sublists of n members are those of that length among all sublists.
+-- The sublists of n members are those of that length among all sublists, and each keeps what all of the cells keep.
 use Rattle.std.proofs.Common.{◌≡◌, ℕ, suc, zero, Bool, true, false, ◌&&◌, List, [], ◌∷◌, map, length, nat_eq, arith, refl, ◌∙◌, ap}
 use Rattle.std.specs.Prelude.{filter, cond}
+use Rattle.std.specs.List.{AllByRecursion}
 use Rattle.std.proofs.lemmas.Bool.Decides.{nat_tests}
 use Rattle.std.proofs.lemmas.List.Elements.{filter-append}
 use Rattle.tv_lemmas.proofs.Lists.{filter-map, filter-none}
+use Rattle.tv_lemmas.proofs.Members.{all-append, all-map}
 use Rattle.tv_cells.specs.declared.cell.Cell.{Cell}
 use Rattle.tv_cells.specs.declared.legs.Legs.{Legs}
 use Rattle.tv_cells.specs.Cells.{sublists, sublists_of}
 use Rattle.tv_cells.specs.Extras.{is_extras}
+use Rattle.tv_cells.proofs.Rising.{Before}
 
 filter_and_head : (p q : List Cell → Bool) (x : List Cell) (both passed : List (List Cell)) (b c : Bool) → p x ≡ b → both ≡ filter p passed → cond (b && c) (x ∷ both) both ≡ filter p (cond c (x ∷ passed) passed)
 filter_and_head p q x both passed true true e rest = rw e (ap (λ zs. x ∷ zs) rest)
@@ -41,3 +44,13 @@ by_length (suc n) (c ∷ cells) =
 
 pub extras_by_length : (legs : Legs) (n : ℕ) (cells : List Cell) → filter (λ s. is_extras legs s && nat_eq (length s) n) (sublists cells) ≡ filter (is_extras legs) (sublists_of n cells)
 extras_by_length legs n cells = filter-and (is_extras legs) (λ s. nat_eq (length s) n) (sublists cells) ∙ ap (filter (is_extras legs)) (by_length n cells)
+
+-- a cell before all of the cells is before each sublist of them
+pub sublists-before : (c : Cell) (n : ℕ) (cells : List Cell) → Before c cells → AllByRecursion (Before c) (sublists_of n cells)
+unfolding sublists_of
+sublists-before c zero cells b = (tt, tt)
+sublists-before c (suc n) [] b = tt
+sublists-before c (suc n) (d ∷ cells) b =
+    all-append (Before c) (map (λ s. d ∷ s) (sublists_of n cells)) (sublists_of (suc n) cells)
+    (all-map (Before c) (Before c) (λ s. d ∷ s) (λ s e. (b.0, e)) (sublists_of n cells) (sublists-before c n cells b.1))
+    (sublists-before c (suc n) cells b.1)

@@ -4,7 +4,7 @@ ghost use Rattle.std.specs.Prelude.{◌≡◌, ◌+◌, ◌*◌, ◌≤◌, ◌+
 ghost use Rattle.tv_partition.specs.Rows.{size};
 ghost use Rattle.tv_cells.specs.Costs.{edge_cost, row_cost, rows_cost};
 
-use tv_partition::diagram::Diagram;
+use tv_partition::diagram::{Diagram, MOST_CELLS};
 
 /// The sum of 1 - ma i - mb j over the cells (i, j) of the diagram.
 #[tactic(auto, using(crate::proofs::Bounded::bounded))]
@@ -18,14 +18,14 @@ pub fn edge_cost(d: &Diagram, ma: i64, mb: i64) -> i64
     cost_of_rows(ma, mb, 0, d.rows())
 }
 
-// The recursion is at most 25 levels deep, since a diagram has no more rows than cells.
+// The recursion is at most `MOST_CELLS` + 1 levels deep, since a diagram has no more rows than cells.
 fn cost_of_rows(ma: i64, mb: i64, i: u32, rows: &[u32]) -> i64
     requires ma_low { negsuc 999 ≤ℤ ma }
     requires ma_high { ma ≤ℤ pos 1000 }
     requires mb_low { negsuc 999 ≤ℤ mb }
     requires mb_high { mb ≤ℤ pos 1000 }
-    requires few { i + length rows.now ≤ 24 }
-    requires small { size rows.now ≤ 24 }
+    requires few { i + length rows.now ≤ MOST_CELLS }
+    requires small { size rows.now ≤ MOST_CELLS }
     ensures value { result ≡ rows_cost ma mb i rows.now }
     ensures low { neg_ℤ (pos (48001 * size rows.now)) ≤ℤ result }
     ensures high { result ≤ℤ pos (48001 * size rows.now) }
@@ -42,8 +42,8 @@ fn cost_of_row(ma: i64, mb: i64, i: u32, n: u32) -> i64
     requires ma_high { ma ≤ℤ pos 1000 }
     requires mb_low { negsuc 999 ≤ℤ mb }
     requires mb_high { mb ≤ℤ pos 1000 }
-    requires few { i ≤ 24 }
-    requires short { n ≤ 24 }
+    requires few { i ≤ MOST_CELLS }
+    requires short { n ≤ MOST_CELLS }
     ensures value { result ≡ row_cost ma mb i n }
     ensures low { neg_ℤ (pos (48001 * n)) ≤ℤ result }
     ensures high { result ≤ℤ pos (48001 * n) }
@@ -60,8 +60,8 @@ fn cost_of_cell(ma: i64, mb: i64, i: u32, j: u32) -> i64
     requires ma_high { ma ≤ℤ pos 1000 }
     requires mb_low { negsuc 999 ≤ℤ mb }
     requires mb_high { mb ≤ℤ pos 1000 }
-    requires few { i ≤ 24 }
-    requires short { j ≤ 24 }
+    requires few { i ≤ MOST_CELLS }
+    requires short { j ≤ MOST_CELLS }
     ensures value { result ≡ (pos 1 -ℤ (ma *ℤ pos i)) -ℤ (mb *ℤ pos j) }
     ensures low { negsuc 48000 ≤ℤ result }
     ensures high { result ≤ℤ pos 48001 }
@@ -76,7 +76,7 @@ fn cost_of_cell(ma: i64, mb: i64, i: u32, j: u32) -> i64
 fn times(m: i64, n: u32) -> i64
     requires m_low { negsuc 999 ≤ℤ m }
     requires m_high { m ≤ℤ pos 1000 }
-    requires small { n ≤ 24 }
+    requires small { n ≤ MOST_CELLS }
     ensures value { result ≡ m *ℤ pos n }
     ensures low { negsuc 23999 ≤ℤ result }
     ensures high { result ≤ℤ pos 24000 }

@@ -5,10 +5,10 @@ ghost use Rattle.std.specs.Prelude.{◌≡◌, ◌≤◌};
 ghost use Rattle.tv_partition.specs.Rows.{IsSmall};
 ghost use Rattle.tv_cells.specs.Extras.{AreDiagrams, extent};
 
-use tv_partition::diagram::Diagram;
+use tv_partition::diagram::{Diagram, MOST_CELLS};
 
 /// The diagrams of the legs along the three axes, each by the two other coordinates in the order x, y, z.
-#[derive(Drop, Debug)]
+#[derive(Clone, Debug, Drop, PartialEq, Eq, Hash)]
 pub struct Legs {
     pub along_x: Diagram,
     pub along_y: Diagram,
@@ -19,14 +19,14 @@ impl Legs {
     /// The least number below which both entries of every cell of the three diagrams are.
     pub fn extent(&self) -> u32
         ensures value { result ≡ extent self.now }
-        ensures bound { result ≤ 24 }
+        ensures bound { result ≤ MOST_CELLS }
     {
         self.along_x
             .reach()
             .max(self.along_y.reach().max(self.along_z.reach()))
     }
 
-    /// Tells that each leg is a diagram of at most 24 cells, and does nothing.
+    /// Tells that each leg is a diagram of at most `MOST_CELLS` cells, and does nothing.
     pub fn known(&self)
         ensures diagrams { AreDiagrams self.now }
         ensures along_x { IsSmall self.now.along_x }

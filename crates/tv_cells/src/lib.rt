@@ -3,6 +3,7 @@
 
 pub mod cell;
 pub mod costs;
+pub mod cuts;
 pub mod extras;
 pub mod laws;
 pub mod legs;

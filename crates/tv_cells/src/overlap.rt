@@ -7,6 +7,7 @@ ghost use Rattle.tv_cells.specs.Extras.{extent};
 ghost use Rattle.tv_cells.specs.Grid.{diagonal_of};
 
 use crate::legs::Legs;
+use tv_partition::diagram::MOST_CELLS;
 
 /// One for each cell in exactly two legs and two for each in all three: what the Euler characteristic of a configuration
 /// loses at the corner (Maulik, Nekrasov, Okounkov and Pandharipande).
@@ -34,7 +35,7 @@ fn whole_cost(legs: &Legs) -> u32
 fn diagonal_cost(legs: &Legs, side: u32, k: u32) -> u32
     requires whole { side ≡ extent legs.now }
     requires positive { 0 < side }
-    requires few { side ≤ 24 }
+    requires few { side ≤ MOST_CELLS }
     requires within { k < 2 * side - 1 }
     ensures value { result ≡ overlaps legs.now (diagonal_of side k) }
     ensures bound { result ≤ 1152 }

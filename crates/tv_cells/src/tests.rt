@@ -2,7 +2,7 @@
 
 use crate::cell::Cell;
 use crate::legs::Legs;
-use crate::{costs, extras, order, overlap};
+use crate::{costs, cuts, extras, order, overlap};
 use std::alloc::Global;
 use std::test::Fail;
 use tv_partition::diagram::Diagram;
@@ -83,6 +83,7 @@ fn takes_the_costs(rt: HostRuntime) -> Result<(), Fail> {
     };
     assert_eq!(rt; overlap::overlap_cost(&two), 3);
     assert_eq!(rt; two.extent(), 2);
+    assert!(rt; two.clone()? == two);
     Ok(())
 }
 
@@ -100,5 +101,21 @@ fn beside_one_along_y(alloc: Global, rows: &[u32]) -> Result<i64, Fail> {
 fn tells_a_row_from_a_column(rt: HostRuntime) -> Result<(), Fail> {
     assert_eq!(rt; beside_one_along_y(rt.alloc(), &[2])?, 2);
     assert_eq!(rt; beside_one_along_y(rt.alloc(), &[1, 1])?, 1);
+    Ok(())
+}
+
+#[test]
+fn cuts_a_choice(rt: HostRuntime) -> Result<(), Fail> {
+    let legs = Legs {
+        along_x: diagram(rt.alloc(), &[1])?,
+        along_y: Diagram::empty(rt.alloc()),
+        along_z: Diagram::empty(rt.alloc()),
+    };
+    let chosen = [cell(1, 1, 0)];
+    assert!(rt; cuts::enters(&legs, &chosen, cell(1, 2, 0)));
+    assert!(rt; cuts::enters(&legs, &chosen, cell(2, 1, 0)));
+    assert!(rt; !cuts::enters(&legs, &chosen, cell(1, 1, 1)));
+    assert!(rt; cuts::leaves_gap(&legs, &chosen, cell(0, 1, 0)));
+    assert!(rt; !cuts::leaves_gap(&legs, &chosen, cell(0, 0, 0)));
     Ok(())
 }

@@ -1,16 +1,16 @@
 -- The entries of a class, one point after the other.
 --
 -- entries_from e m n k count == the entries from point k on
-use Rattle.std.specs.Prelude.{◌≡◌, ℕ, zero, suc, ◌+◌, ◌-◌, ◌<◌, ◌≤◌, ℤ, pos, ◌+ℤ◌, ◌-ℤ◌, ◌*ℤ◌, neg_ℤ, List, [], ◌∷◌, ◌++◌, map, length}
+use Rattle.std.specs.Prelude.{◌≡◌, ℕ, ◌+◌, ◌-◌, ◌<◌, ◌≤◌, ℤ, pos, ◌+ℤ◌, ◌-ℤ◌, ◌*ℤ◌, neg_ℤ, List, [], ◌∷◌, ◌++◌, map, length}
 use Rattle.std.specs.List.{AllByRecursion, range_with_len}
-use Rattle.std.proofs.Common.{sym, ap, subst, ◌∙◌, get_or, append_assoc, append-nil, length-append, arith, add-one}
-use Rattle.std.proofs.lemmas.List.FromFn.{length-map-range_with_len}
+use Rattle.std.proofs.Common.{sym, ap, subst, ◌∙◌, get_or, append_assoc, append-nil, length-append, arith}
+use Rattle.std.proofs.lemmas.List.FromFn.{get_or-map-range_with_len, length-map-range_with_len}
 use Rattle.tv_spec_plane.specs.declared.records.CompactEdge.{CompactEdge}
 use Rattle.tv_spec_plane.specs.Web.{Web, below, edge_ratio, edge_class}
 use Rattle.tv_lattice.specs.Classes.{IsEntry, IsEntries}
 use Rattle.tv_lattice.proofs.Each.{each_push}
 use Rattle.tv_lattice.proofs.Sums.{degree_from, degree_from-next}
-use Rattle.tv_web.proofs.Finding.{length-range_with_len, range_with_len-step, range_with_len-end}
+use Rattle.tv_web.proofs.Finding.{range_with_len-step, range_with_len-end}
 use Rattle.tv_degrees.specs.Edges.{entry_by}
 
 unfoldable pub entries_from : CompactEdge → ℤ → ℤ → ℕ → ℕ → List ℤ
@@ -33,7 +33,7 @@ entries_first e m n count done none = record {
 pub entries_next : (e : CompactEdge) (m n : ℤ) (k count : ℕ) (done more : List ℤ) → k < count → IsEntry (entry_by e m n k) → more ≡ done ++ entry_by e m n k ∷ [] → AreEntries e m n k count done → AreEntries e m n (k + 1) count more
 unfolding entries_from
 entries_next e m n k count done more h limit pushed so_far = record {
-  whole = rw (add-one, pushed) (append_assoc done (entry_by e m n k ∷ []) (map (entry_by e m n) (range_with_len (k + 1) (count - suc k))) ∙ (sym (ap (λ is. done ++ map (entry_by e m n) is) (range_with_len-step k count h)) ∙ so_far.whole));
+  whole = rw pushed (append_assoc done (entry_by e m n k ∷ []) (map (entry_by e m n) (range_with_len (k + 1) (count - (k + 1)))) ∙ (sym (ap (λ is. done ++ map (entry_by e m n) is) (range_with_len-step k count h)) ∙ so_far.whole));
   number = ap length pushed ∙ (length-append done (entry_by e m n k ∷ []) ∙ omega (arith, so_far.number));
   small = subst (AllByRecursion IsEntry) (sym pushed) (each_push IsEntry done (entry_by e m n k) so_far.small limit);
 }
@@ -46,13 +46,8 @@ pub entries_limits : (e : CompactEdge) (m n : ℤ) (k count : ℕ) (done : List 
 entries_limits e m n k count done few so_far = record { few = omega (arith, so_far.number); small = so_far.small }
 
 -- entry k of the list
-numbers-get : (f : ℕ → ℤ) (k n i : ℕ) → i < n → get_or (map f (range_with_len k n)) i (pos 0) ≡ f (k + i)
-numbers-get f k zero i h = absurd (omega arith)
-numbers-get f k (suc n) zero h = ap f (let e : k ≡ k + 0 = omega arith in e)
-numbers-get f k (suc n) (suc i) h = numbers-get f (k + 1) n i (omega arith) ∙ ap f (let e : (k + 1) + i ≡ k + suc i = omega arith in e)
-
 pub entries-get : (f : ℕ → ℤ) (n i : ℕ) → i < n → get_or (map f (below n)) i (pos 0) ≡ f i
-entries-get f n i h = numbers-get f 0 n i h ∙ ap f (let e : 0 + i ≡ i = omega arith in e)
+entries-get f n i h = get_or-map-range_with_len f 0 n i i (pos 0) h (omega arith)
 
 -- the class and the degree of an edge by its ratio
 pub edge_class-by : (w : Web) (e : CompactEdge) (m n : ℤ) (count : ℕ) → m ≡ edge_ratio w e -ℤ pos 2 → n ≡ neg_ℤ (edge_ratio w e) → count ≡ length w.points → map (entry_by e m n) (below count) ≡ edge_class w e

@@ -5,11 +5,12 @@
 -- IsDegreeFault w f == f names the first compact edge of a degree of at most 0, or is want of memory
 -- AreGrades w es vs zs == the lists are the classes and the degrees of the edges, and each degree is at least 1
 -- IsPushed w e vs zs us ys == class and degree of the edge, which is at least 1, are added at the ends of vs and zs
--- IsHeighted w  == at most 64 points, and a height within its limit for each
+-- IsHeighted w  == as many points as a file may list, or fewer, and a height within its limit for each
 use Rattle.std.specs.Prelude.{◌≡◌, ◌<◌, ◌≤◌, ℕ, ℤ, pos, ◌<ℤ◌, ◌≤ℤ◌, List, [], ◌∷◌, ◌++◌, length, map, take, ⊤}
 use Rattle.std.specs.List.{AllByRecursion}
 use Rattle.tv_spec_plane.specs.declared.records.CompactEdge.{CompactEdge}
 use Rattle.tv_spec_plane.specs.Web.{Web, compact, edge_class, edge_degree}
+use Rattle.tv_spec_plane.specs.declared.limits.TheConstants.{MOST_POINTS}
 use Rattle.tv_spec_plane.specs.Graded.{HasDegree}
 use Rattle.tv_lattice.specs.Limits.{IsHeight}
 use Rattle.tv_degrees.specs.declared.fault.DegreeFault.{DegreeFault}
@@ -43,6 +44,6 @@ pub record IsPushed (w : Web) (e : CompactEdge) (vs : List (List ℤ)) (zs : Lis
   pub positive : HasDegree w e
 
 pub record IsHeighted (w : Web) : Type 0 where
-  pub few : length w.points ≤ 64
+  pub few : length w.points ≤ MOST_POINTS
   pub one_each : length w.heights ≡ length w.points
   pub small : AllByRecursion IsHeight w.heights

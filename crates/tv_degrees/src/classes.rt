@@ -9,6 +9,7 @@ use crate::relation;
 use std::alloc::{AllocError, Global};
 use tv_lattice::class::Class;
 use tv_lattice::point;
+use tv_spec_plane::limits::MOST_POINTS;
 use tv_spec_plane::records::CompactEdge;
 use tv_web::web::Web;
 
@@ -45,7 +46,7 @@ fn entries_of(
     b: i64,
     count: u32,
 ) -> Result<Class, AllocError>
-    requires few { count ≤ 64 }
+    requires few { count ≤ MOST_POINTS }
     requires first { IsEntry a }
     requires second { IsEntry b }
     ensures { IfOk result (λ class. class ≡ map (entry_by edge a b) (below count)) }

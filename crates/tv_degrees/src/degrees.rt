@@ -9,6 +9,7 @@ ghost use Rattle.tv_degrees.specs.Edges.{edge_at, entry_by, with_heights};
 
 use crate::classes;
 use tv_lattice::class;
+use tv_spec_plane::limits::MOST_POINTS;
 use tv_spec_plane::records::CompactEdge;
 use tv_web::web::Web;
 
@@ -41,7 +42,7 @@ fn degree_of(web: &Web, edge: CompactEdge, heights: &[i64]) -> i64
 
 // The sum over the points below count, by the normal degrees of the edge.
 fn sum_of(heights: &[i64], edge: CompactEdge, a: i64, b: i64, count: u32) -> i64
-    requires few { count ≤ 64 }
+    requires few { count ≤ MOST_POINTS }
     requires one_each { length heights.now ≡ count }
     requires small { AllByRecursion IsHeight heights.now }
     requires first { IsEntry a }

@@ -7,7 +7,7 @@ ghost use Rattle.tv_spec_plane.specs.Web.{compact, outer, corners, edge_ratio, n
 ghost use Rattle.tv_lattice.specs.Limits.{IsHeight, HasCoordinates};
 ghost use Rattle.tv_laws_edges.specs.Rule.{HasEdgeRule};
 ghost use Rattle.tv_degrees.specs.Edges.{edge_at, with_heights, IsNormalDegree};
-ghost use Rattle.tv_degrees.specs.Grades.{IsDegreeFault, IsHeighted}
+ghost use Rattle.tv_degrees.specs.Grades.{IsDegreeFault, IsHeighted};
 ghost use Rattle.tv_spec_plane.specs.Graded.{IsGraded};
 
 use crate::classes;

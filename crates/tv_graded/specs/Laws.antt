@@ -8,10 +8,13 @@
 -- AddedCoefficient      == each coefficient of the class that the family knows grows by that of the series
 -- CoefficientsElsewhere == every other class keeps its coefficients
 -- RowsAreFound          == each row is what is found of its class
+-- CutIsFamily           == a family that is cut after an exponent that it knows is a family
+-- CutClasses            == it has the same classes in the same order
+-- CutCoefficients       == it has the same coefficients through that exponent
 use Rattle.std.specs.Prelude.{◌≡◌, ◌⊎◌, ◌↔◌, ℤ, ◌≤ℤ◌, List, Some, Contains}
 use Rattle.tv_ring.specs.Operations.{Operations}
-use Rattle.tv_laws_series.specs.Terms.{Terms}
-use Rattle.tv_spec_series.specs.Families.{Row, Family, row, classes, coefficient, find, added, with_series, coefficient_of, IsFamily, IsAddend}
+use Rattle.tv_laws_series.specs.Terms.{Terms, IsWithin}
+use Rattle.tv_spec_series.specs.Families.{Row, Family, row, classes, coefficient, find, added, cut, with_series, coefficient_of, IsFamily, IsAddend}
 
 abbrev pub SumsCommute : {A : Type 0} → (A → Type 0) → Operations A → Type 0
 SumsCommute {A} IsValue r = (f : Family A) (v w : List ℤ) (s t : Terms A) → IsFamily IsValue r f → IsAddend IsValue r f v s → IsAddend IsValue r f w t → added r v s (added r w t f) ≡ added r w t (added r v s f)
@@ -36,3 +39,12 @@ CoefficientsElsewhere {A} r = (f : Family A) (u v : List ℤ) (s : Terms A) (n :
 
 abbrev pub RowsAreFound : {A : Type 0} → (A → Type 0) → Operations A → Type 0
 RowsAreFound {A} IsValue r = (f : Family A) (x : Row A) → IsFamily IsValue r f → Contains f.rows x → find x.class f.rows ≡ Some x
+
+abbrev pub CutIsFamily : {A : Type 0} → (A → Type 0) → Operations A → Type 0
+CutIsFamily {A} IsValue r = (f : Family A) (n : ℤ) → IsFamily IsValue r f → IsWithin n → n ≤ℤ f.upto → IsFamily IsValue r (cut n f)
+
+abbrev pub CutClasses : Type 0 → Type 0
+CutClasses A = (f : Family A) (n : ℤ) → classes (cut n f).rows ≡ classes f.rows
+
+abbrev pub CutCoefficients : {A : Type 0} → Operations A → Type 0
+CutCoefficients {A} r = (f : Family A) (n : ℤ) (v : List ℤ) (i : ℤ) → i ≤ℤ n → coefficient_of r (cut n f) v i ≡ coefficient_of r f v i

@@ -8,17 +8,10 @@ ghost use Rattle.tv_spec_series.specs.Families.{divided_row};
 ghost use Rattle.tv_graded.specs.Calls.{OnWideClass, IsRowWide, IsAmongWide};
 
 use crate::fault::GradedFault;
-use crate::kept::Kept;
-use std::alloc::{AllocError, Global};
-use tv_lattice::class::Class;
+use crate::kept::{Kept, copy_of};
+use std::alloc::Global;
 use tv_laurent::{Series, SeriesFault};
 use tv_ring::Ring;
-
-fn copy_of(alloc: Global, class: &Class) -> Result<Class, AllocError>
-    ensures value { IfOk result (λ copy. copy ≡ class.now) }
-{
-    Ok(Class::new(class.entries().to_vec(alloc)?))
-}
 
 fn divided_row<C: Ring>(
     alloc: Global,

@@ -1,6 +1,6 @@
 //! A family of series by class: its rows are sorted by degree, then by entries. It does not know which classes a web has.
 
-ghost use Rattle.std.specs.Prelude.{◌≡◌, ◌≤◌, ◌↔◌, ◌≤ℤ◌, pos, length, Some, None, IsNone, IfSome, IfErr, OnOk, OnErr, IfOk, MatchOption, slice_get};
+ghost use Rattle.std.specs.Prelude.{◌≡◌, ◌≤◌, ◌↔◌, ◌≤ℤ◌, pos, length, Some, None, IsNone, IfSome, IfErr, OnOk, OnErr, IfOk, MatchOption, slice_get, map};
 ghost use Rattle.std.specs.List.{AllByRecursion};
 ghost use Rattle.tv_laws_series.specs.Terms.{upto, IsWithin};
 ghost use Rattle.tv_laws_series.specs.Quotients.{quotient_upto, IsUnitSeries};
@@ -8,15 +8,18 @@ ghost use Rattle.tv_laurent.specs.SeriesCalls.{OnWide};
 ghost use Rattle.tv_laurent.specs.QuotientCalls.{QuotientReaches};
 ghost use Rattle.tv_lattice.specs.Limits.{IsHeight};
 ghost use Rattle.tv_spec_plane.specs.Web.{degree_of};
-ghost use Rattle.tv_spec_series.specs.Families.{row, find, added, divided, without_rows, HasPlace, IsFamily};
+ghost use Rattle.tv_spec_series.specs.Families.{row, find, added, divided, cut, without_rows, HasPlace, IsFamily};
+ghost use Rattle.tv_graded.specs.Listing.{with_degree};
 ghost use Rattle.tv_graded.specs.Calls.{IsAddedWide, OnWideClass, IsDividedWide};
 
 use crate::divided::divided_rows;
+use crate::entries::Entries;
 use crate::entry::Entry;
 use crate::fault::GradedFault;
 use crate::kept::Kept;
 use crate::order::{is_at, place_of};
-use std::alloc::Global;
+use crate::rows::{copies, truncate_each};
+use std::alloc::{AllocError, Global};
 use std::marker::Model;
 use tv_lattice::class::Class;
 use tv_laurent::{Series, SeriesFault};
@@ -36,6 +39,7 @@ pub struct Graded<C: Ring> {
 
 impl<C: Ring> Model for Graded<C> {
     ghost use Rattle.tv_spec_series.specs.Families.{Family};
+    ghost use Rattle.tv_graded.specs.Listing.{with_degree};
     ghost use Rattle.tv_graded.specs.Calls.{IsHeld};
 
     ghost Value = { Family C };
@@ -106,6 +110,13 @@ impl<C: Ring> Graded<C> {
         }
     }
 
+    /// Each class once, in order, with its degree and its series.
+    pub fn iter(&self) -> Entries<'_, C>
+        ensures value { result ≡ map (with_degree self.now.heights) self.now.rows }
+    {
+        Entries::new(&self.heights, &self.rows)
+    }
+
     /// The series of a class.
     pub fn get(&self, class: &Class) -> Option<&Series<C>>
         ensures value { MatchOption result (find class.now self.now.rows ≡ None) (λ series. find class.now self.now.rows ≡ Some (row class.now series.now)) }
@@ -162,6 +173,42 @@ impl<C: Ring> Graded<C> {
             upto: self.upto,
             rows,
         })
+    }
+
+    /// The same family once more.
+    pub fn copy(&self) -> Result<Graded<C>, AllocError>
+        ensures value { IfOk result (λ family. family ≡ self.now) }
+    {
+        let alloc = *self.rows.allocator();
+        let heights = self.heights.to_vec(alloc)?;
+        let rows = copies(alloc, &self.rows)?;
+        Ok(Graded {
+            heights,
+            top: self.top,
+            upto: self.upto,
+            rows,
+        })
+    }
+
+    /// Forgets the coefficients beyond `upto`, which the family knows. It takes no memory.
+    pub fn cut(self, upto: i64) -> Graded<C>
+        requires within { IsWithin upto }
+        requires known { upto ≤ℤ self.upto }
+        ensures value { result ≡ cut upto self }
+    {
+        let mut family = self;
+        family.truncate(upto);
+        family
+    }
+
+    /// Forgets the coefficients beyond `upto`, in place.
+    pub fn truncate(&mut self, upto: i64)
+        requires within { IsWithin upto }
+        requires known { upto ≤ℤ self.old.upto }
+        ensures value { self.new ≡ cut upto self.old }
+    {
+        truncate_each(&mut self.rows, upto);
+        self.upto = upto;
     }
 
     /// Answers nothing, and tells a proof what holds of each family that is kept.

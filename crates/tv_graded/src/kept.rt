@@ -1,8 +1,10 @@
 //! A class with its series, as a family keeps it. It does not know the family's heights.
 
-ghost use Rattle.std.specs.Prelude.{◌≡◌};
-ghost use Rattle.tv_spec_series.specs.Families.{row};
+ghost use Rattle.std.specs.Prelude.{◌≡◌, IfOk};
+ghost use Rattle.tv_laws_series.specs.Terms.{IsWithin};
+ghost use Rattle.tv_spec_series.specs.Families.{row, cut_row};
 
+use std::alloc::{AllocError, Global};
 use std::marker::Model;
 use tv_lattice::class::Class;
 use tv_laurent::Series;
@@ -21,6 +23,13 @@ impl<C: Ring> Model for Kept<C> {
     ghost Value = { Row C };
 
     ghost view = { λ kept. row kept.class kept.series };
+}
+
+/// The same class once more.
+pub fn copy_of(alloc: Global, class: &Class) -> Result<Class, AllocError>
+    ensures value { IfOk result (λ copy. copy ≡ class.now) }
+{
+    Ok(Class::new(class.entries().to_vec(alloc)?))
 }
 
 impl<C: Ring> Kept<C> {
@@ -43,5 +52,22 @@ impl<C: Ring> Kept<C> {
         ensures value { result.now ≡ self.now.series }
     {
         &self.series
+    }
+
+    /// The same row once more.
+    pub fn copy(&self, alloc: Global) -> Result<Kept<C>, AllocError>
+        ensures value { IfOk result (λ copy. copy ≡ self.now) }
+    {
+        let class = copy_of(alloc, &self.class)?;
+        let series = self.series.copy()?;
+        Ok(Kept { class, series })
+    }
+
+    /// Forgets the coefficients beyond `upto`.
+    pub fn truncate(&mut self, upto: i64)
+        requires within { IsWithin upto }
+        ensures value { self.new ≡ cut_row upto self.old }
+    {
+        self.series.truncate(upto);
     }
 }

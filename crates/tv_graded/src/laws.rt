@@ -1,7 +1,7 @@
 //! The laws of sums into a class, as calls that do nothing and whose contracts are the laws.
 //! They speak of the same sums as the contracts of a family's calls do.
 
-ghost use Rattle.tv_graded.specs.Laws.{SumsCommute, AddedHere, AddedElsewhere, AddedIsFamily, AddedClasses, AddedCoefficient, CoefficientsElsewhere, RowsAreFound};
+ghost use Rattle.tv_graded.specs.Laws.{SumsCommute, AddedHere, AddedElsewhere, AddedIsFamily, AddedClasses, AddedCoefficient, CoefficientsElsewhere, RowsAreFound, CutIsFamily, CutClasses, CutCoefficients};
 
 use tv_ring::Ring;
 
@@ -31,4 +31,11 @@ pub fn added_coefficients<C: Ring>()
 /// Each row is what is found of its class.
 pub fn rows_are_found<C: Ring>()
     ensures law { RowsAreFound C.IsValue C.ring }
+{}
+
+/// A family that is cut after an exponent that it knows is a family of the same classes, with the same coefficients so far.
+pub fn cut_families<C: Ring>()
+    ensures family { CutIsFamily C.IsValue C.ring }
+    ensures classes { CutClasses C }
+    ensures coefficients { CutCoefficients C.ring }
 {}

@@ -3,13 +3,16 @@
 #![tactic(auto)]
 
 mod divided;
+mod entries;
 mod entry;
 mod fault;
 mod graded;
 mod kept;
 pub mod laws;
 mod order;
+mod rows;
 
+pub use entries::Entries;
 pub use entry::Entry;
 pub use fault::GradedFault;
 pub use graded::Graded;

@@ -127,6 +127,11 @@ fn sorts_by_degree_then_by_entries(rt: HostRuntime) -> Result<(), Fail> {
     assert!(rt; shows(&family, 1, &[1, 0], 1, 1));
     assert!(rt; shows(&family, 2, &[0, 2], 2, 1));
     assert!(rt; shows(&family, 3, &[1, 1], 2, 1));
+    let mut degrees = Vec::new(rt.alloc());
+    for entry in family.iter() {
+        degrees.push(entry.degree)?;
+    }
+    assert!(rt; degrees.as_slice() == [1, 1, 2, 2].as_slice());
     Ok(())
 }
 
@@ -205,6 +210,25 @@ fn quotients_by_class(rt: HostRuntime) -> Result<(), Fail> {
 }
 
 #[test]
+fn copies_and_cuts(rt: HostRuntime) -> Result<(), Fail> {
+    let mut family = family_of::<Whole>(rt.alloc(), 1, 0, 1)?;
+    let series = numbers(rt.alloc(), -1, &[2, 5])?;
+    add(&mut family, class_of(rt.alloc(), 1, 0)?, series)?;
+    let copy = family.copy()?;
+    if family.upto() < -1 {
+        return Err("known through 0".into());
+    }
+    let short = family.cut(-1);
+    assert_eq!(rt; short.upto(), -1);
+    let entry = short.at(0).ok_or("the class")?;
+    assert!(rt; entry.class.entries() == [1, 0].as_slice());
+    assert!(rt; matches!(entry.series.coefficient(-1), Coefficient::Is(whole) if whole.get() == 2));
+    assert!(rt; matches!(entry.series.coefficient(0), Coefficient::Beyond));
+    assert!(rt; shows(&copy, 0, &[1, 0], 1, 5));
+    Ok(())
+}
+
+#[test]
 fn tells_the_class_of_a_wide_quotient(rt: HostRuntime) -> Result<(), Fail> {
     let mut family = family_of::<Whole>(rt.alloc(), 1, 0, 1)?;
     let most = numbers(rt.alloc(), -1, &[1, i128::MAX])?;
@@ -245,5 +269,6 @@ fn laws_of_sums() -> Result<(), Fail> {
     laws::added_families::<Whole>();
     laws::added_coefficients::<Whole>();
     laws::rows_are_found::<Whole>();
+    laws::cut_families::<Whole>();
     Ok(())
 }

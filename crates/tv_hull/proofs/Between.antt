@@ -1,12 +1,14 @@
 -- Which points of a line lie between two others, by the way along it.
-use Rattle.std.specs.Prelude.{◌≡◌, ℕ, zero, suc, ℤ, pos, negsuc, ◌+ℤ◌, ◌-ℤ◌, ◌*ℤ◌, neg_ℤ, ◌≤ℤ◌, ◌<ℤ◌, Bool, true, false, List}
+use Rattle.std.specs.Prelude.{◌≡◌, ℕ, zero, suc, ℤ, pos, negsuc, ◌+ℤ◌, ◌-ℤ◌, ◌*ℤ◌, neg_ℤ, ◌≤ℤ◌, ◌<ℤ◌, List}
 use Rattle.std.proofs.Common.{ap, sym, ◌∙◌, arith, inl, inr}
 use Rattle.std.proofs.lemmas.Int.{ints}
+use Rattle.tv_hull.specs.declared.order.Heading.{Heading}
+use Rattle.tv_hull.specs.declared.order.Heading.TheVariants.{Up, Down}
 use Rattle.tv_spec_plane.specs.Plane.{Point, at, turn, IsBetween}
-use Rattle.tv_lemmas.proofs.Integers.{diff_of, diff-pos, diff-same, diffs}
+use Rattle.tv_lemmas.proofs.Integers.{diff_of, diff-pos, diff-same, diffs, neg-mul}
 use Rattle.tv_lemmas.proofs.Signs.{sign, mul-pos-pos, mul-pos-neg, mul-neg-neg, mul-neg-pos, mul-nonneg-nonneg}
 use Rattle.tv_laws_tiling.proofs.Rotations.{turn-rotate, turn-exchange}
-use Rattle.tv_hull.proofs.Rises.{rise, toward, toward-back, toward-add}
+use Rattle.tv_hull.proofs.Rises.{rise, toward, toward-back, toward-add, toward-down}
 
 -- k to a times k to b
 unfoldable pub dot : Point → Point → Point → ℤ
@@ -17,9 +19,6 @@ along_at ux uy vx vy =
     let r = diff_of ux in let s = diff_of uy in let t = diff_of vx in let u = diff_of vy in
     rw (r.2, s.2, t.2, u.2, diff-pos 201) (simp diffs (diff-same _ _ _ _ (omega arith)))
 
-neg-mul : (a b : ℤ) → neg_ℤ a *ℤ b ≡ neg_ℤ (a *ℤ b)
-neg-mul a b = let r = diff_of a in let s = diff_of b in rw (r.2, s.2) (simp diffs (diff-same _ _ _ _ (omega arith)))
-
 without : (a t b : ℤ) → t ≡ pos 0 → a +ℤ (t *ℤ b) ≡ a
 without a t b e = rw e (omega (arith, ints))
 
@@ -27,15 +26,11 @@ along_rise : (k a b : Point) → turn k a b ≡ pos 0 → rise k a *ℤ dot k b 
 unfolding rise turn dot
 along_rise k a b e = along_at (a.x -ℤ k.x) (a.y -ℤ k.y) (b.x -ℤ k.x) (b.y -ℤ k.y) ∙ without _ _ _ e
 
-toward-down : (p q : Point) → toward true p q ≡ neg_ℤ (rise p q)
-unfolding toward rise
-toward-down p q = omega (arith, ints)
-
 -- on a line the ways from k to a and to b are as a multiple of one vector
-along : (down : Bool) (k a b : Point) → turn k a b ≡ pos 0 → toward down k a *ℤ dot k b b ≡ toward down k b *ℤ dot k a b
+along : (heading : Heading) (k a b : Point) → turn k a b ≡ pos 0 → toward heading k a *ℤ dot k b b ≡ toward heading k b *ℤ dot k a b
 unfolding toward
-along false k a b e = along_rise k a b e
-along true k a b e = rw (toward-down k a, toward-down k b) (neg-mul (rise k a) (dot k b b) ∙ (ap neg_ℤ (along_rise k a b e) ∙ sym (neg-mul (rise k b) (dot k a b))))
+along Up k a b e = along_rise k a b e
+along Down k a b e = rw (toward-down k a, toward-down k b) (neg-mul (rise k a) (dot k b b) ∙ (ap neg_ℤ (along_rise k a b e) ∙ sym (neg-mul (rise k b) (dot k a b))))
 
 dot-exchange : (k a b : Point) → dot k a b ≡ dot k b a
 unfolding dot
@@ -68,10 +63,10 @@ dot-zero_rise k a e =
     let second : a.y -ℤ k.y ≡ pos 0 = nonzero_square (a.y -ℤ k.y) (omega (arith, ints, square (a.x -ℤ k.x), square (a.y -ℤ k.y))) in
     omega (arith, ints)
 
-dot-zero : (down : Bool) (k a : Point) → dot k a a ≡ pos 0 → toward down k a ≡ pos 0
+dot-zero : (heading : Heading) (k a : Point) → dot k a a ≡ pos 0 → toward heading k a ≡ pos 0
 unfolding toward
-dot-zero false k a e = dot-zero_rise k a e
-dot-zero true k a e = omega (arith, ints, dot-zero_rise k a e, toward-down k a)
+dot-zero Up k a e = dot-zero_rise k a e
+dot-zero Down k a e = omega (arith, ints, dot-zero_rise k a e, toward-down k a)
 
 -- with p and q the ways from k to a and b, and s, t and m the products of their vectors
 between_signs : (p q s t m : ℤ) → p <ℤ q → pos 0 ≤ℤ s → pos 0 ≤ℤ t → m <ℤ pos 0 → p *ℤ t ≡ q *ℤ m → q *ℤ s ≡ p *ℤ m → (p <ℤ pos 0) × (pos 0 <ℤ q)
@@ -79,7 +74,7 @@ between_signs p q s t m h hs ht hm e f = elim (sign q) [
   | inl less ↦ absurd (omega (arith, ints, mul-neg-neg p m (omega (arith, ints)) hm, mul-nonpos-pos' q s less hs))
   | inr (inl same) ↦ absurd (omega (arith, ints, mul-neg-neg p m (omega (arith, ints)) hm, mul-zero-left q s same))
   | inr (inr more) ↦ elim (sign p) [
-    | inl down ↦ (down, more)
+    | inl heading ↦ (heading, more)
     | inr (inl level) ↦ absurd (omega (arith, ints, mul-pos-neg q m more hm, mul-zero-left p t level))
     | inr (inr up) ↦ absurd (omega (arith, ints, mul-pos-neg q m more hm, mul-nonneg-nonneg p t (omega (arith, ints)) ht))
   ]
@@ -95,17 +90,17 @@ between_signs p q s t m h hs ht hm e f = elim (sign q) [
     mul-zero-left a b e = rw e (omega (arith, ints))
 
 -- a point k between a and b is ahead of a, and b is ahead of it
-between_at : (down : Bool) (a b k : Point) → pos 0 <ℤ toward down a b → turn k a b ≡ pos 0 → dot k a b <ℤ pos 0 → (pos 0 <ℤ toward down a k) × (pos 0 <ℤ toward down k b)
-between_at down a b k h line inside =
-    let back = toward-back down a k in
-    let through = toward-add down a k b in
+between_at : (heading : Heading) (a b k : Point) → pos 0 <ℤ toward heading a b → turn k a b ≡ pos 0 → dot k a b <ℤ pos 0 → (pos 0 <ℤ toward heading a k) × (pos 0 <ℤ toward heading k b)
+between_at heading a b k h line inside =
+    let back = toward-back heading a k in
+    let through = toward-add heading a k b in
     let other : turn k b a ≡ pos 0 = omega (arith, ints, turn-exchange k a b) in
-    let signs = between_signs (toward down k a) (toward down k b) (dot k a a) (dot k b b) (dot k a b) (omega (arith, ints)) (dot-same k a) (dot-same k b) inside (along down k a b line) (along down k b a other ∙ ap (λ z. toward down k a *ℤ z) (sym (dot-exchange k a b))) in
+    let signs = between_signs (toward heading k a) (toward heading k b) (dot k a a) (dot k b b) (dot k a b) (omega (arith, ints)) (dot-same k a) (dot-same k b) inside (along heading k a b line) (along heading k b a other ∙ ap (λ z. toward heading k a *ℤ z) (sym (dot-exchange k a b))) in
     (omega (arith, ints, signs.0), signs.1)
 
-pub between-ahead : (ps : List Point) (down : Bool) (a b k : ℕ) → pos 0 <ℤ toward down (at ps a) (at ps b) → IsBetween ps a b k → (pos 0 <ℤ toward down (at ps a) (at ps k)) × (pos 0 <ℤ toward down (at ps k) (at ps b))
+pub between-ahead : (ps : List Point) (heading : Heading) (a b k : ℕ) → pos 0 <ℤ toward heading (at ps a) (at ps b) → IsBetween ps a b k → (pos 0 <ℤ toward heading (at ps a) (at ps k)) × (pos 0 <ℤ toward heading (at ps k) (at ps b))
 unfolding dot
-between-ahead ps down a b k h between = between_at down (at ps a) (at ps b) (at ps k) h (sym (turn-rotate (at ps k) (at ps a) (at ps b)) ∙ between.on_line) between.inside
+between-ahead ps heading a b k h between = between_at heading (at ps a) (at ps b) (at ps k) h (sym (turn-rotate (at ps k) (at ps a) (at ps b)) ∙ between.on_line) between.inside
 
 -- with p and q the ways from k to a and b, and t and m the products of their vectors
 apart_signs : (p q t m : ℤ) → p <ℤ pos 0 → pos 0 <ℤ q → pos 0 ≤ℤ t → (t ≡ pos 0 → q ≡ pos 0) → p *ℤ t ≡ q *ℤ m → m <ℤ pos 0
@@ -126,9 +121,9 @@ apart_signs p q t m hp hq ht apart e = elim (sign m) [
     ]
 
 -- and the other way round
-pub ahead-between : (ps : List Point) (down : Bool) (a b k : ℕ) → turn (at ps a) (at ps b) (at ps k) ≡ pos 0 → pos 0 <ℤ toward down (at ps a) (at ps k) → pos 0 <ℤ toward down (at ps k) (at ps b) → IsBetween ps a b k
+pub ahead-between : (ps : List Point) (heading : Heading) (a b k : ℕ) → turn (at ps a) (at ps b) (at ps k) ≡ pos 0 → pos 0 <ℤ toward heading (at ps a) (at ps k) → pos 0 <ℤ toward heading (at ps k) (at ps b) → IsBetween ps a b k
 unfolding dot
-ahead-between ps down a b k line first second = record {
+ahead-between ps heading a b k line first second = record {
   on_line = line;
-  inside = apart_signs (toward down (at ps k) (at ps a)) (toward down (at ps k) (at ps b)) (dot (at ps k) (at ps b) (at ps b)) (dot (at ps k) (at ps a) (at ps b)) (omega (arith, ints, toward-back down (at ps a) (at ps k))) second (dot-same (at ps k) (at ps b)) (dot-zero down (at ps k) (at ps b)) (along down (at ps k) (at ps a) (at ps b) (sym (turn-rotate (at ps k) (at ps a) (at ps b)) ∙ line));
+  inside = apart_signs (toward heading (at ps k) (at ps a)) (toward heading (at ps k) (at ps b)) (dot (at ps k) (at ps b) (at ps b)) (dot (at ps k) (at ps a) (at ps b)) (omega (arith, ints, toward-back heading (at ps a) (at ps k))) second (dot-same (at ps k) (at ps b)) (dot-zero heading (at ps k) (at ps b)) (along heading (at ps k) (at ps a) (at ps b) (sym (turn-rotate (at ps k) (at ps a) (at ps b)) ∙ line));
 }

@@ -1,24 +1,26 @@
 -- Points on the line of two distinct ones: any three of them have the turn 0.
-use Rattle.std.specs.Prelude.{◌≡◌, ◌≢◌, ℕ, ◌<◌, ◌≤◌, pos, ◌+ℤ◌, ◌*ℤ◌, ◌⊎◌, false, List, length}
+use Rattle.std.specs.Prelude.{◌≡◌, ◌≢◌, ℕ, ◌<◌, ◌≤◌, pos, ◌+ℤ◌, ◌*ℤ◌, ◌⊎◌, List, length}
 use Rattle.std.specs.List.{AllByRecursion}
 use Rattle.std.proofs.Common.{◌∙◌, arith, inl, inr}
 use Rattle.std.proofs.lemmas.Int.{ints}
+use Rattle.tv_hull.specs.declared.order.Heading.TheVariants.{Up}
 use Rattle.tv_lattice.specs.Limits.{HasCoordinates}
 use Rattle.tv_spec_plane.specs.Plane.{Point, at, turn}
 use Rattle.tv_lemmas.proofs.Signs.{factor-zero}
-use Rattle.tv_hull.specs.Points.{AreDistinct, IsFlat}
-use Rattle.tv_laws_tiling.proofs.Rotations.{turn-exchange, turn-first, turn-rotate}
+use Rattle.tv_laws_tiling.specs.Points.{AreDistinct, IsFlat}
+use Rattle.tv_laws_tiling.proofs.Rotations.{turn-exchange, turn-first}
+use Rattle.tv_laws_tiling.proofs.Turns.{turn-last}
 use Rattle.tv_hull.proofs.Rises.{toward, by_toward, turn-from}
 use Rattle.tv_hull.proofs.Compare.{small-at, toward-level}
 
 -- from a on, with b another point of the line
 line_of_two : (a b c d : Point) → HasCoordinates a → HasCoordinates b → a ≢ b → turn a b c ≡ pos 0 → turn a b d ≡ pos 0 → turn a c d ≡ pos 0
 line_of_two a b c d sa sb apart hc hd =
-    let level : toward false a b ≢ pos 0 = λ e. apart (toward-level false a b sa sb e) in
+    let level : toward Up a b ≢ pos 0 = λ e. apart (toward-level Up a b sa sb e) in
     let back : turn a d b ≡ pos 0 = omega (arith, ints, turn-exchange a b d) in
-    let sum : (toward false a b *ℤ turn a c d) +ℤ ((toward false a c *ℤ turn a d b) +ℤ (toward false a d *ℤ turn a b c)) ≡ pos 0 = by_toward false a c d b in
+    let sum : (toward Up a b *ℤ turn a c d) +ℤ ((toward Up a c *ℤ turn a d b) +ℤ (toward Up a d *ℤ turn a b c)) ≡ pos 0 = by_toward Up a c d b in
     let rest = rw (back, hc) at sum in
-    factor-zero (turn a c d) (toward false a b) (omega (arith, ints)) level
+    factor-zero (turn a c d) (toward Up a b) (omega (arith, ints)) level
 
 line_of_three : (a b c d e : Point) → HasCoordinates a → HasCoordinates b → a ≢ b → turn a b c ≡ pos 0 → turn a b d ≡ pos 0 → turn a b e ≡ pos 0 → turn c d e ≡ pos 0
 line_of_three a b c d e sa sb apart hc hd he =
@@ -46,9 +48,6 @@ flat-line ps small distinct line = elim (few_or_many (length ps)) [
   | inl few ↦ flat-few ps few
   | inr many ↦ flat-many ps small distinct many line
 ]
-
-turn-last : (p q : Point) → turn p q p ≡ pos 0
-turn-last p q = turn-rotate p p q ∙ turn-first p q
 
 turn-outside : (ps : List Point) (k : ℕ) → length ps ≤ 1 → k < length ps → turn (at ps 0) (at ps 1) (at ps k) ≡ pos 0
 turn-outside ps k few h = rw (lone (length ps) k few h) (turn-last (at ps 0) (at ps 1))

@@ -1,8 +1,10 @@
 -- For small coordinates the order by x, then y, is the sign of rise.
-use Rattle.std.specs.Prelude.{◌≡◌, ℕ, zero, suc, ℤ, pos, ◌-ℤ◌, ◌≤ℤ◌, ◌<ℤ◌, ◌⊎◌, Bool, true, false, List, [], ◌∷◌}
+use Rattle.std.specs.Prelude.{◌≡◌, ℕ, zero, suc, ℤ, pos, ◌-ℤ◌, ◌≤ℤ◌, ◌<ℤ◌, ◌⊎◌, List, [], ◌∷◌}
 use Rattle.std.specs.List.{AllByRecursion}
 use Rattle.std.proofs.Common.{ap, ◌∙◌, arith, inl, inr}
 use Rattle.std.proofs.lemmas.Int.{ints}
+use Rattle.tv_hull.specs.declared.order.Heading.{Heading}
+use Rattle.tv_hull.specs.declared.order.Heading.TheVariants.{Up, Down}
 use Rattle.tv_lattice.specs.Limits.{HasCoordinates}
 use Rattle.tv_spec_plane.specs.Plane.{Point, at}
 use Rattle.tv_laws_tiling.specs.Hull.{IsLess}
@@ -45,32 +47,32 @@ level-same_at p q small_p small_q h (inr (inr more)) = absurd (omega (arith, int
 level-same : (p q : Point) → HasCoordinates p → HasCoordinates q → rise p q ≡ pos 0 → p ≡ q
 level-same p q small_p small_q h = level-same_at p q small_p small_q h (sign (q.x -ℤ p.x))
 
-pub ahead-toward : (down : Bool) (p q : Point) → HasCoordinates p → HasCoordinates q → IsAhead down p q → pos 0 <ℤ toward down p q
+pub ahead-toward : (heading : Heading) (p q : Point) → HasCoordinates p → HasCoordinates q → IsAhead heading p q → pos 0 <ℤ toward heading p q
 unfolding toward
-ahead-toward false p q small_p small_q h = less-rises p q small_p small_q h
-ahead-toward true p q small_p small_q h = less-rises q p small_q small_p h
+ahead-toward Up p q small_p small_q h = less-rises p q small_p small_q h
+ahead-toward Down p q small_p small_q h = less-rises q p small_q small_p h
 
-pub toward-ahead : (down : Bool) (p q : Point) → HasCoordinates p → HasCoordinates q → pos 0 <ℤ toward down p q → IsAhead down p q
+pub toward-ahead : (heading : Heading) (p q : Point) → HasCoordinates p → HasCoordinates q → pos 0 <ℤ toward heading p q → IsAhead heading p q
 unfolding toward
-toward-ahead false p q small_p small_q h = rises-less p q small_p small_q h
-toward-ahead true p q small_p small_q h = rises-less q p small_q small_p h
+toward-ahead Up p q small_p small_q h = rises-less p q small_p small_q h
+toward-ahead Down p q small_p small_q h = rises-less q p small_q small_p h
 
-pub toward-level : (down : Bool) (p q : Point) → HasCoordinates p → HasCoordinates q → toward down p q ≡ pos 0 → p ≡ q
+pub toward-level : (heading : Heading) (p q : Point) → HasCoordinates p → HasCoordinates q → toward heading p q ≡ pos 0 → p ≡ q
 unfolding toward rise
-toward-level false p q small_p small_q h = level-same p q small_p small_q h
-toward-level true p q small_p small_q h = level-same p q small_p small_q (omega (arith, ints))
+toward-level Up p q small_p small_q h = level-same p q small_p small_q h
+toward-level Down p q small_p small_q h = level-same p q small_p small_q (omega (arith, ints))
 
-pub not_ahead-toward : (down : Bool) (p q : Point) → HasCoordinates p → HasCoordinates q → (IsAhead down p q → ⊥) → toward down p q ≤ℤ pos 0
-not_ahead-toward down p q small_p small_q behind = elim (sign (toward down p q)) [
+pub not_ahead-toward : (heading : Heading) (p q : Point) → HasCoordinates p → HasCoordinates q → (IsAhead heading p q → ⊥) → toward heading p q ≤ℤ pos 0
+not_ahead-toward heading p q small_p small_q behind = elim (sign (toward heading p q)) [
   | inl less ↦ omega (arith, ints)
   | inr (inl same) ↦ omega (arith, ints)
-  | inr (inr more) ↦ absurd (behind (toward-ahead down p q small_p small_q more))
+  | inr (inr more) ↦ absurd (behind (toward-ahead heading p q small_p small_q more))
 ]
 
 -- either q is ahead of p, or it is not
-pub ahead_or_not : (down : Bool) (p q : Point) → HasCoordinates p → HasCoordinates q → IsAhead down p q ⊎ (IsAhead down p q → ⊥)
-ahead_or_not down p q small_p small_q = elim (sign (toward down p q)) [
-  | inl less ↦ inr (λ h. absurd (omega (arith, ints, ahead-toward down p q small_p small_q h)))
-  | inr (inl same) ↦ inr (λ h. absurd (omega (arith, ints, ahead-toward down p q small_p small_q h)))
-  | inr (inr more) ↦ inl (toward-ahead down p q small_p small_q more)
+pub ahead_or_not : (heading : Heading) (p q : Point) → HasCoordinates p → HasCoordinates q → IsAhead heading p q ⊎ (IsAhead heading p q → ⊥)
+ahead_or_not heading p q small_p small_q = elim (sign (toward heading p q)) [
+  | inl less ↦ inr (λ h. absurd (omega (arith, ints, ahead-toward heading p q small_p small_q h)))
+  | inr (inl same) ↦ inr (λ h. absurd (omega (arith, ints, ahead-toward heading p q small_p small_q h)))
+  | inr (inr more) ↦ inl (toward-ahead heading p q small_p small_q more)
 ]

@@ -1,7 +1,8 @@
 -- What the turns of points in an open half-plane say of one another.
-use Rattle.std.specs.Prelude.{◌≡◌, zero, suc, ℤ, pos, negsuc, ◌+ℤ◌, ◌*ℤ◌, ◌≤ℤ◌, ◌<ℤ◌, ◌⊎◌, Bool}
+use Rattle.std.specs.Prelude.{◌≡◌, zero, suc, ℤ, pos, negsuc, ◌+ℤ◌, ◌*ℤ◌, ◌≤ℤ◌, ◌<ℤ◌, ◌⊎◌}
 use Rattle.std.proofs.Common.{arith, inl, inr}
 use Rattle.std.proofs.lemmas.Int.{ints}
+use Rattle.tv_hull.specs.declared.order.Heading.{Heading}
 use Rattle.tv_lattice.specs.Limits.{HasCoordinates}
 use Rattle.tv_spec_plane.specs.Plane.{Point, turn}
 use Rattle.tv_lemmas.proofs.Signs.{sign, mul-pos-pos, mul-neg-neg, mul-nonneg-nonneg, mul-zero}
@@ -35,9 +36,9 @@ both_zero r s t u hr ht hs hu e =
     let second = mul-nonneg-nonneg t u (omega (arith, ints)) hu in
     (mul-zero r s hr (omega (arith, ints)), mul-zero t u ht (omega (arith, ints)))
 
-pub kept-turn : (down : Bool) (p b c : Point) → IsKept down p b c → pos 0 ≤ℤ turn p b c
-kept-turn down p b c (inl h) = omega (arith, ints)
-kept-turn down p b c (inr h) = omega (arith, ints)
+pub kept-turn : (heading : Heading) (p b c : Point) → IsKept heading p b c → pos 0 ≤ℤ turn p b c
+kept-turn heading p b c (inl h) = omega (arith, ints)
+kept-turn heading p b c (inr h) = omega (arith, ints)
 
 -- from p on, with d, b and c ahead
 kept_signs : (rb rc rd t u v : ℤ) → pos 0 <ℤ rb → pos 0 <ℤ rc → pos 0 <ℤ rd → pos 0 ≤ℤ t → pos 0 ≤ℤ u → (rc *ℤ t) +ℤ ((rd *ℤ u) +ℤ (rb *ℤ v)) ≡ pos 0 → (v <ℤ pos 0) ⊎ ((v ≡ pos 0) × ((t ≡ pos 0) × (u ≡ pos 0)))
@@ -52,55 +53,55 @@ kept_signs rb rc rd t u v hb hc hd ht hu e =
       | inr (inr more) ↦ absurd (omega (arith, ints))
     ]
 
-pub kept_through : (down : Bool) (p d b c : Point) → HasCoordinates p → HasCoordinates d → HasCoordinates b → HasCoordinates c → IsAhead down p d → IsAhead down p b → IsAhead down p c → IsKept down p d b → IsKept down p b c → IsKept down p d c
-kept_through down p d b c sp sd sb sc ad ab ac first second =
-    let hd = ahead-toward down p d sp sd ad in
-    let hb = ahead-toward down p b sp sb ab in
-    let hc = ahead-toward down p c sp sc ac in
+pub kept_through : (heading : Heading) (p d b c : Point) → HasCoordinates p → HasCoordinates d → HasCoordinates b → HasCoordinates c → IsAhead heading p d → IsAhead heading p b → IsAhead heading p c → IsKept heading p d b → IsKept heading p b c → IsKept heading p d c
+kept_through heading p d b c sp sd sb sc ad ab ac first second =
+    let hd = ahead-toward heading p d sp sd ad in
+    let hb = ahead-toward heading p b sp sb ab in
+    let hc = ahead-toward heading p c sp sc ac in
     let back = turn-exchange p c d in
-    elim (kept_signs (toward down p b) (toward down p c) (toward down p d) (turn p d b) (turn p b c) (turn p c d) hb hc hd (kept-turn down p d b first) (kept-turn down p b c second) (by_toward down p d b c)) [
+    elim (kept_signs (toward heading p b) (toward heading p c) (toward heading p d) (turn p d b) (turn p b c) (turn p c d) hb hc hd (kept-turn heading p d b first) (kept-turn heading p b c second) (by_toward heading p d b c)) [
       | inl less ↦ inl (omega (arith, ints))
       | inr zeros ↦ inr (omega (arith, ints), later first second zeros.1.0 zeros.1.1)
     ]
   where
-    later : IsKept down p d b → IsKept down p b c → turn p d b ≡ pos 0 → turn p b c ≡ pos 0 → IsAhead down c d → ⊥
+    later : IsKept heading p d b → IsKept heading p b c → turn p d b ≡ pos 0 → turn p b c ≡ pos 0 → IsAhead heading c d → ⊥
     later (inl h) k e f a = absurd (omega (arith, ints))
     later (inr h) (inl k) e f a = absurd (omega (arith, ints))
-    later (inr h) (inr k) e f a = absurd (omega (arith, ints, ahead-toward down c d sc sd a, not_ahead-toward down c b sc sb k.1, not_ahead-toward down b d sb sd h.1, toward-add down c b d))
+    later (inr h) (inr k) e f a = absurd (omega (arith, ints, ahead-toward heading c d sc sd a, not_ahead-toward heading c b sc sb k.1, not_ahead-toward heading b d sb sd h.1, toward-add heading c b d))
 
 -- one of two points is no better than the other
-pub kept-back : (down : Bool) (p b d : Point) → HasCoordinates b → HasCoordinates d → (IsKept down p b d → ⊥) → IsKept down p d b
-kept-back down p b d sb sd better =
+pub kept-back : (heading : Heading) (p b d : Point) → HasCoordinates b → HasCoordinates d → (IsKept heading p b d → ⊥) → IsKept heading p d b
+kept-back heading p b d sb sd better =
     let back = turn-exchange p b d in
     elim (sign (turn p b d)) [
       | inl less ↦ inl (omega (arith, ints))
-      | inr (inl same) ↦ inr (omega (arith, ints), λ h. better (inr (same, λ k. absurd (omega (arith, ints, ahead-toward down b d sb sd h, ahead-toward down d b sd sb k, toward-back down b d)))))
+      | inr (inl same) ↦ inr (omega (arith, ints), λ h. better (inr (same, λ k. absurd (omega (arith, ints, ahead-toward heading b d sb sd h, ahead-toward heading d b sd sb k, toward-back heading b d)))))
       | inr (inr more) ↦ absurd (better (inl more))
     ]
 
 -- past q and p, on whose left all lies, each point not ahead of p is on the left of p and each point ahead
-pub behind : (down : Bool) (q p b c : Point) → pos 0 <ℤ toward down q p → pos 0 ≤ℤ toward down p b → toward down p c ≤ℤ pos 0 → pos 0 ≤ℤ turn q p b → pos 0 ≤ℤ turn q p c → pos 0 ≤ℤ turn p b c
-behind down q p b c hq hb hc tb tc =
-    let away = toward-back down q p in
+pub behind : (heading : Heading) (q p b c : Point) → pos 0 <ℤ toward heading q p → pos 0 ≤ℤ toward heading p b → toward heading p c ≤ℤ pos 0 → pos 0 ≤ℤ turn q p b → pos 0 ≤ℤ turn q p c → pos 0 ≤ℤ turn p b c
+behind heading q p b c hq hb hc tb tc =
+    let away = toward-back heading q p in
     let right = turn-rotate q p c in
     let left = turn-rotate q p b in
     let exchange = turn-exchange p b q in
-    let first = mul-nonneg-nonneg (toward down p b) (turn p c q) hb (omega (arith, ints)) in
-    let second = mul-nonpos-nonpos (toward down p c) (turn p q b) hc (omega (arith, ints)) in
-    let sum = by_toward down p b c q in
+    let first = mul-nonneg-nonneg (toward heading p b) (turn p c q) hb (omega (arith, ints)) in
+    let second = mul-nonpos-nonpos (toward heading p c) (turn p q b) hc (omega (arith, ints)) in
+    let sum = by_toward heading p b c q in
     elim (sign (turn p b c)) [
-      | inl less ↦ absurd (omega (arith, ints, mul-neg-neg (toward down p q) (turn p b c) (omega (arith, ints)) less))
+      | inl less ↦ absurd (omega (arith, ints, mul-neg-neg (toward heading p q) (turn p b c) (omega (arith, ints)) less))
       | inr (inl same) ↦ omega (arith, ints)
       | inr (inr more) ↦ omega (arith, ints)
     ]
 
 -- where the ways of a b and c d overlap, c is not on the left of a b
-pub overlap : (down : Bool) (a b c d : Point) → pos 0 ≤ℤ toward down a c → pos 0 ≤ℤ toward down c b → pos 0 <ℤ toward down c d → pos 0 ≤ℤ turn c d a → pos 0 ≤ℤ turn c d b → turn a b c ≤ℤ pos 0
-overlap down a b c d ha hb hd ta tb =
-    let back = toward-back down a c in
+pub overlap : (heading : Heading) (a b c d : Point) → pos 0 ≤ℤ toward heading a c → pos 0 ≤ℤ toward heading c b → pos 0 <ℤ toward heading c d → pos 0 ≤ℤ turn c d a → pos 0 ≤ℤ turn c d b → turn a b c ≤ℤ pos 0
+overlap heading a b c d ha hb hd ta tb =
+    let back = toward-back heading a c in
     let exchange = turn-exchange c b d in
     let rotate = turn-rotate c a b in
-    let first = mul-nonpos-nonpos (toward down c a) (turn c b d) (omega (arith, ints)) (omega (arith, ints)) in
-    let second = mul-nonneg-nonneg (toward down c b) (turn c d a) hb ta in
-    let low = rest-nonneg (toward down c d) (turn c a b) ((toward down c a *ℤ turn c b d) +ℤ (toward down c b *ℤ turn c d a)) hd (omega (arith, ints)) (by_toward down c a b d) in
+    let first = mul-nonpos-nonpos (toward heading c a) (turn c b d) (omega (arith, ints)) (omega (arith, ints)) in
+    let second = mul-nonneg-nonneg (toward heading c b) (turn c d a) hb ta in
+    let low = rest-nonneg (toward heading c d) (turn c a b) ((toward heading c a *ℤ turn c b d) +ℤ (toward heading c b *ℤ turn c d a)) hd (omega (arith, ints)) (by_toward heading c a b d) in
     omega (arith, ints)

@@ -6,7 +6,8 @@ use Rattle.tv_spec_plane.specs.Plane.{Point}
 use Rattle.tv_hull.specs.declared.fault.LatticeFault.{LatticeFault}
 use Rattle.tv_hull.specs.declared.fault.LatticeFault.TheVariants.{Repeated, Flat, Memory}
 use Rattle.tv_hull.specs.Pairs.{IsFirstPair}
-use Rattle.tv_hull.specs.Points.{AreDistinct, IsRepeat, IsFlat}
+use Rattle.tv_laws_tiling.specs.Points.{AreDistinct, IsFlat}
+use Rattle.tv_hull.specs.Points.{IsRepeat}
 
 abbrev pub IsFault : List Point → LatticeFault → Type 0
 IsFault ps (Repeated i j) = IsFirstPair (IsRepeat ps) i j

@@ -3,16 +3,17 @@
 ghost use Rattle.std.specs.Prelude.{◌≡◌, ◌<◌, ◌≤◌, ◌↔◌, IsTrue, length};
 ghost use Rattle.std.specs.List.{AllByRecursion};
 ghost use Rattle.tv_lattice.specs.Limits.{HasCoordinates};
-ghost use Rattle.tv_hull.specs.Points.{AreDistinct, IsFlat};
+ghost use Rattle.tv_laws_tiling.specs.Points.{AreDistinct, IsFlat};
 
 use tv_lattice::point::{Point, at};
 use tv_lattice::turn::turn;
+use tv_spec_plane::limits::MOST_POINTS;
 
 /// Whether there are fewer than three points or all of them lie on the line of the first two.
 pub fn is_flat(points: &[Point]) -> bool
     requires small { AllByRecursion HasCoordinates points.now }
     requires distinct { AreDistinct points.now }
-    requires count { length points.now ≤ 64 }
+    requires count { length points.now ≤ MOST_POINTS }
     ensures { IsTrue result ↔ IsFlat points.now }
 {
     let n = points.len() as u32;

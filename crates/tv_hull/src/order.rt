@@ -6,6 +6,15 @@ ghost use Rattle.tv_hull.specs.Ways.{IsAhead};
 
 use tv_lattice::point::Point;
 
+/// Which way along the boundary of the hull.
+#[derive(Clone, Copy, Debug, PartialEq, Eq)]
+pub enum Heading {
+    /// From the least point up to the greatest, by x, then y.
+    Up,
+    /// From the greatest point down to the least.
+    Down,
+}
+
 /// Whether p comes before q by x, then y.
 pub fn is_less(p: Point, q: Point) -> bool
     ensures { IsTrue result ↔ IsLess p q }
@@ -18,8 +27,11 @@ pub fn is_less(p: Point, q: Point) -> bool
 }
 
 /// Whether q comes after p on the way up or down.
-pub fn is_ahead(down: bool, p: Point, q: Point) -> bool
-    ensures { IsTrue result ↔ IsAhead down p q }
+pub fn is_ahead(heading: Heading, p: Point, q: Point) -> bool
+    ensures { IsTrue result ↔ IsAhead heading p q }
 {
-    if down { is_less(q, p) } else { is_less(p, q) }
+    match heading {
+        Heading::Up => is_less(p, q),
+        Heading::Down => is_less(q, p),
+    }
 }

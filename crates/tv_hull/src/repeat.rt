@@ -2,13 +2,15 @@
 
 ghost use Rattle.std.specs.Prelude.{◌≡◌, ◌<◌, ◌≤◌, length, MatchOption, ℕ};
 ghost use Rattle.tv_hull.specs.Pairs.{IsFirst, IsFirstPair};
-ghost use Rattle.tv_hull.specs.Points.{AreDistinct, IsRepeat};
+ghost use Rattle.tv_laws_tiling.specs.Points.{AreDistinct};
+ghost use Rattle.tv_hull.specs.Points.{IsRepeat};
 
 use tv_lattice::point::Point;
+use tv_spec_plane::limits::MOST_POINTS;
 
 /// The first pair of equal points.
 pub fn first_repeat(points: &[Point]) -> Option<(u32, u32)>
-    requires { length points.now ≤ 64 }
+    requires { length points.now ≤ MOST_POINTS }
     ensures { MatchOption result (AreDistinct points.now) (λ p. IsFirstPair (IsRepeat points.now) p.0 p.1) }
 {
     for i in 0..points.len() {

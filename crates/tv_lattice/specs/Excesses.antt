@@ -1,6 +1,6 @@
 -- Which limit a file passes first.
 --
--- HasCounts w  == at most 64 points and 128 triangles
+-- HasCounts w  == as many points and triangles as a file may list, or fewer
 -- IsExcess w e == e is the first limit that w passes, in the order points, triangles, coordinates, heights; of a
 --                 coordinate or a height the least number of a point or a height over it
 -- IsFirstHeight hs k == k is the least number of a height over its limit
@@ -8,6 +8,7 @@
 -- IsLimitFault w e   == e is the first limit that w passes, or want of memory
 use Rattle.std.specs.Prelude.{◌≡◌, ℕ, ◌<◌, ◌≤◌, ℤ, List, length, take, slice_index_or, pos, ⊤}
 use Rattle.std.specs.List.{AllByRecursion}
+use Rattle.tv_spec_plane.specs.declared.limits.TheConstants.{MOST_POINTS, MOST_TRIANGLES}
 use Rattle.tv_spec_plane.specs.Plane.{Point, at}
 use Rattle.tv_spec_plane.specs.Web.{Web}
 use Rattle.tv_lattice.specs.declared.fault.InputError.{InputError}
@@ -18,11 +19,11 @@ use Rattle.tv_lattice.specs.declared.fault.Excess.TheVariants.{Points, Triangles
 use Rattle.tv_lattice.specs.Limits.{IsHeight, HasCoordinates}
 
 abbrev pub HasCounts : Web → Type 0
-HasCounts w = (length w.points ≤ 64) × (length w.triangles ≤ 128)
+HasCounts w = (length w.points ≤ MOST_POINTS) × (length w.triangles ≤ MOST_TRIANGLES)
 
 abbrev pub IsExcess : Web → Excess → Type 0
-IsExcess w (Points n) = (n ≡ length w.points) × (64 < n)
-IsExcess w (Triangles n) = (length w.points ≤ 64) × (n ≡ length w.triangles) × (128 < n)
+IsExcess w (Points n) = (n ≡ length w.points) × (MOST_POINTS < n)
+IsExcess w (Triangles n) = (length w.points ≤ MOST_POINTS) × (n ≡ length w.triangles) × (MOST_TRIANGLES < n)
 IsExcess w (Coordinate i) = HasCounts w × (i < length w.points) × AllByRecursion HasCoordinates (take i w.points) × (HasCoordinates (at w.points i) → ⊥)
 IsExcess w (Height k) = HasCounts w × AllByRecursion HasCoordinates w.points × (k < length w.heights) × AllByRecursion IsHeight (take k w.heights) × (IsHeight (slice_index_or w.heights k (pos 0)) → ⊥)
 

@@ -9,7 +9,8 @@ ghost use Rattle.tv_lattice.specs.Classes.{IsEntry, IsEntries, entry_sums};
 use std::alloc::{AllocError, Global};
 use std::marker::Model;
 
-/// At most 64 entries, one for each point in the order of the points, each of at most 10^11 in absolute value.
+/// At most `MOST_POINTS` entries, one for each point in the order of the points, each of at most `GREATEST_ENTRY` in absolute
+/// value.
 #[derive(Drop, Debug)]
 pub struct Class {
     entries: Vec<i64>,

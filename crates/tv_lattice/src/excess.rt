@@ -9,6 +9,7 @@ use crate::fault::{Excess, FileFault, InputError};
 use crate::file::{FileData, RawFile};
 use crate::point::Point;
 use std::alloc::Global;
+use tv_spec_plane::limits::{GREATEST_HEIGHT, MOST_POINTS, MOST_TRIANGLES};
 use tv_spec_plane::records::RawPoint;
 
 /// The same file as one within the limits, or the first limit that it passes: first the count of points, then that of
@@ -17,10 +18,10 @@ use tv_spec_plane::records::RawPoint;
 pub fn limits(alloc: Global, raw: RawFile) -> Result<FileData, InputError>
     ensures { MatchResult result (λ w. (w ≡ raw) × IsWithinLimits w) (IsLimitFault raw) }
 {
-    if raw.points.len() > 64 {
+    if raw.points.len() > MOST_POINTS {
         return Err(too_many(Excess::Points(raw.points.len() as u64)));
     }
-    if raw.triangles.len() > 128 {
+    if raw.triangles.len() > MOST_TRIANGLES {
         return Err(too_many(Excess::Triangles(raw.triangles.len() as u64)));
     }
     let points = near_points(alloc, &raw.points)?;
@@ -42,7 +43,7 @@ fn too_many(excess: Excess) -> InputError
 
 // The points, or the first with a coordinate over its limit.
 fn near_points(alloc: Global, raw: &[RawPoint]) -> Result<Vec<Point>, InputError>
-    requires { length raw.now ≤ 64 }
+    requires { length raw.now ≤ MOST_POINTS }
     ensures { MatchResult result (λ v. (v.items ≡ raw.now) × AllByRecursion HasCoordinates raw.now) (IsPointFault raw.now) }
 {
     let mut points = Vec::new(alloc);
@@ -60,7 +61,7 @@ fn first_height(heights: &[i64]) -> Option<usize>
     ensures { MatchOption result (AllByRecursion IsHeight heights.now) (IsFirstHeight heights.now) }
 {
     for (k, h) in heights.iter().enumerate() {
-        if h.unsigned_abs() > 1000000 {
+        if h.unsigned_abs() > GREATEST_HEIGHT {
             return Some(k);
         }
     }

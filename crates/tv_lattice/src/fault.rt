@@ -6,20 +6,20 @@ use thiserror::Error;
 /// A count or a number over its limit, in the order in which they are looked for.
 #[derive(Clone, Copy, Debug, PartialEq, Eq)]
 pub enum Excess {
-    /// The count of points, over 64.
+    /// The count of points, over `MOST_POINTS`.
     Points(u64),
-    /// The count of triangles, over 128.
+    /// The count of triangles, over `MOST_TRIANGLES`.
     Triangles(u64),
-    /// The number of the first point, counted from 0, with a coordinate over 100 in absolute value.
+    /// The number of the first point, counted from 0, with a coordinate over `GREATEST_COORDINATE` in absolute value.
     Coordinate(u32),
-    /// The number of the first height, counted from 0, over 1,000,000 in absolute value.
+    /// The number of the first height, counted from 0, over `GREATEST_HEIGHT` in absolute value.
     Height(u64),
 }
 
 /// The first failing check, with the least number or pair. Points and triangles are counted from 0, in the file's order.
 #[derive(Clone, Copy, Debug, PartialEq, Eq)]
 pub enum FileFault {
-    /// There are more than 65,536 bytes.
+    /// There are more bytes than a file may have.
     TooLong,
     /// The first line, counted from 1, with which no file goes on; one past the last line where the file ends too early.
     Line(u32),

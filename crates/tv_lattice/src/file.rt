@@ -23,8 +23,8 @@ impl Model for RawFile {
     ghost view = { λ f. record { points = f.points.items; triangles = f.triangles.items; heights = f.heights.items } };
 }
 
-/// The same with all counts and numbers within the limits: at most 64 points and 128 triangles, coordinates of at most
-/// 100 and heights of at most 1,000,000 in absolute value.
+/// The same with all counts and numbers within the limits: at most `MOST_POINTS` points and `MOST_TRIANGLES` triangles,
+/// coordinates of at most `GREATEST_COORDINATE` and heights of at most `GREATEST_HEIGHT` in absolute value.
 #[derive(Drop, Debug)]
 pub struct FileData {
     /// The points, numbered from 0 in the file's order; some may be equal.

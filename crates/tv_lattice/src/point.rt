@@ -5,8 +5,9 @@ ghost use Rattle.tv_spec_plane.specs.Plane.{at};
 ghost use Rattle.tv_lattice.specs.Limits.{IsCoordinate};
 
 use std::marker::Model;
+use tv_spec_plane::limits::GREATEST_COORDINATE;
 
-/// A lattice point: whole coordinates, each of at most 100 in absolute value.
+/// A lattice point: whole coordinates, each of at most `GREATEST_COORDINATE` in absolute value.
 #[derive(Clone, Copy, Debug, PartialEq, Eq)]
 pub struct Point {
     x: i64,
@@ -27,7 +28,7 @@ impl Model for Point {
 }
 
 impl Point {
-    /// The point, or None where a coordinate is beyond 100 in absolute value.
+    /// The point, or None where a coordinate is beyond `GREATEST_COORDINATE` in absolute value.
     pub fn new(x: i64, y: i64) -> Option<Point>
         ensures { MatchOption result (IsCoordinate x × IsCoordinate y → ⊥) (λ p. (p ≡ record { x = x; y = y }) × IsCoordinate x × IsCoordinate y) }
     {
@@ -70,5 +71,5 @@ pub fn at(points: &[Point], i: u32) -> Point
 fn is_coordinate(z: i64) -> bool
     ensures { IsTrue result ↔ IsCoordinate z }
 {
-    z.unsigned_abs() <= 100
+    z.unsigned_abs() <= GREATEST_COORDINATE
 }

@@ -4,6 +4,7 @@ ghost use Rattle.std.specs.Prelude.{◌≡◌, ◌≤◌, ◌-ℤ◌, ◌*ℤ◌
 ghost use Rattle.tv_spec_plane.specs.Plane.{turn as turn_of};
 
 use crate::point::Point;
+use tv_spec_plane::limits::GREATEST_COORDINATE;
 
 /// The cross product of b - a and c - a: twice the area of the triangle, above 0 where the points turn
 /// counter-clockwise.
@@ -18,8 +19,8 @@ pub fn turn(a: Point, b: Point, c: Point) -> i64
 }
 
 fn difference(a: i64, b: i64) -> i64
-    requires first { unsigned_abs a ≤ 100 }
-    requires second { unsigned_abs b ≤ 100 }
+    requires first { unsigned_abs a ≤ GREATEST_COORDINATE }
+    requires second { unsigned_abs b ≤ GREATEST_COORDINATE }
     ensures value { result ≡ a -ℤ b }
     ensures bound { unsigned_abs result ≤ 200 }
 {

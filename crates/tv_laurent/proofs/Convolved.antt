@@ -1,8 +1,8 @@
 -- A coefficient of a product, summed up over the pairs that meet in it.
-use Rattle.std.proofs.Common.{◌≡◌, ℕ, zero, suc, ◌+◌, ◌-◌, ◌*◌, ◌<◌, ◌≤◌, min, List, length, refl, sym, ◌∙◌, arith}
+use Rattle.std.proofs.Common.{◌≡◌, ℕ, zero, suc, ◌+◌, ◌-◌, ◌*◌, ◌<◌, ◌≤◌, min, List, length, Result, Ok, Err, IfOk, refl, sym, ◌∙◌, arith}
 use Rattle.tv_ring.specs.Operations.{Operations, RingLaws, SizeLaws, limit}
 use Rattle.tv_ring.specs.Sums.{AreValues, at, sum_below, term, convolution, total_below, size_term, size_convolution}
-use Rattle.tv_ring.proofs.Rings.{mul-nought, nought-mul}
+use Rattle.tv_ring.proofs.Rings.{mul-nought, nought-mul, nought-add}
 use Rattle.tv_ring.proofs.Sums.{sum_below-more, sum-nought, value_sum, total_below-more, total_below-fewer}
 use Rattle.tv_ring.proofs.Products.{term_is, size_term_is, convolution_is, size_convolution_is, value_term}
 use Rattle.tv_ring.proofs.Sizes.{size-terms}
@@ -29,6 +29,13 @@ module _ {A : Type 0} {IsValue : A → Type 0} {r : Operations A} (laws : RingLa
       let z : i + 1 ≡ suc i = omega arith in
       rw (z, sum_below-more r (term r (at r xs) (at r ys) k) i, term_is r (at r xs) (at r ys) k i) (en ∙ rw (summed, ep, ex, ey) refl)
 
+  -- the first pair
+  pub summed_first : (i : ℕ) (x y product : A) → i ≡ (k + 1) - length ys → x ≡ at r xs i → y ≡ at r ys (k - i) → product ≡ r.mul x y → product ≡ sum_below r (term r (at r xs) (at r ys) k) (i + 1)
+  summed_first i x y product first ex ey ep =
+      let value = laws.value_mul (at r xs i) (at r ys (k - i)) (v i) (w (k - i)) in
+      let alone : product ≡ r.add r.nought product = sym (nought-add laws product (rw (ep, ex, ey) value)) in
+      summed_more i r.nought x y product product (summed_none i r.nought refl first) ex ey ep alone
+
   -- after the last pair there is nothing
   pub summed_all : (i : ℕ) (total : A) → total ≡ sum_below r (term r (at r xs) (at r ys) k) i → i ≤ k + 1 → min (length xs) (k + 1) ≤ i → total ≡ convolution r (at r xs) (at r ys) k
   summed_all i total summed within last =
@@ -37,6 +44,12 @@ module _ {A : Type 0} {IsValue : A → Type 0} {r : Operations A} (laws : RingLa
       let past : length xs ≤ j = omega arith in let e = at_past r xs j past in
       rw (term_is r (at r xs) (at r ys) k j, e) (nought-mul laws (at r ys (k - j)) (w (k - j)))) in
       rw (convolution_is r (at r xs) (at r ys) k, z, rest) summed
+
+  -- no pair at all
+  pub summed_nothing : {E : Type 0} (begin end : ℕ) (result : Result A E) → IfOk result (λ x. x ≡ r.nought) → begin ≡ (k + 1) - length ys → (end ≡ min (length xs) (k + 1)) × (end ≤ begin) → IfOk result (λ x. x ≡ convolution r (at r xs) (at r ys) k)
+  summed_nothing begin end (Ok x) e first h = let last = h.0 in let none = h.1 in
+      summed_all begin x (summed_none begin x e first) (omega arith) (omega arith)
+  summed_nothing begin end (Err e) i first h = tt
 
   -- a product that is too wide
   pub term_wide : (i : ℕ) (x y : A) → i < k + 1 → x ≡ at r xs i → y ≡ at r ys (k - i) → limit < r.size x * r.size y → limit < size_convolution r (at r xs) (at r ys) k

@@ -1,5 +1,5 @@
 -- What the calls of a polynomial put together is the sum, the product or the negative, and stays within reach.
-use Rattle.std.proofs.Common.{◌≡◌, ℕ, ◌+◌, ◌-◌, ◌*◌, ◌<◌, ◌≤◌, ◌^◌, max, ℤ, pos, ◌+ℤ◌, unsigned_abs, List, [], ◌++◌, length, take, drop, Err, refl, sym, ◌∙◌, ap, arith, inl, inr}
+use Rattle.std.proofs.Common.{◌≡◌, ℕ, ◌+◌, ◌-◌, ◌*◌, ◌<◌, ◌≤◌, ◌^◌, max, ℤ, pos, true, ◌∷◌, ◌+ℤ◌, unsigned_abs, List, [], ◌++◌, length, take, drop, Err, refl, sym, ◌∙◌, ap, arith, inl, inr}
 use Rattle.std.specs.Int.{int_min}
 use Rattle.std.proofs.lemmas.Int.{ints}
 use Rattle.std.proofs.lemmas.Bool.{cases_lt}
@@ -9,10 +9,11 @@ use Rattle.tv_ring.specs.Sums.{AreValues, at, convolution, size_convolution}
 use Rattle.tv_ring.specs.declared.fault.RingFault.{RingFault}
 use Rattle.tv_ring.specs.declared.fault.RingFault.TheVariants as ring
 use Rattle.tv_laws_series.specs.Terms.{Terms, terms, above, padded, from, known, listed, plus, IsWithin}
-use Rattle.tv_laws_series.specs.Polynomials.{normal, negatives, row_size, IsKept, poly_reach, poly_sum, poly_product, poly_negative}
+use Rattle.tv_laws_series.specs.Polynomials.{normal, negatives, row_size, is_empty, IsPoly, IsKept, poly_reach, poly_sum, poly_product, poly_negative}
 use Rattle.tv_laws_series.proofs.Listed.{length-listed, length-between, at-between}
 use Rattle.tv_laws_series.proofs.SeriesFrom.{value_listed}
 use Rattle.tv_laws_series.proofs.PolyFrom.{value_sum_row, value_product_row, value_negatives}
+use Rattle.tv_laws_series.proofs.PolyRing.{poly_laws}
 use Rattle.tv_laws_series.proofs.PolySizes.{size-padded, size_convolution-row}
 use Rattle.tv_laws_series.proofs.PolyReach.{reach-poly_sum, reach-poly_product, reach-poly_negative}
 use Rattle.tv_laws_series.proofs.PolyKept.{low_within, length_within, coefficient_reach, all_nought, normal_between}
@@ -28,6 +29,15 @@ use Rattle.tv_laurent.proofs.SeriesResults.{from_padded}
 pub wide_without : {P : ℤ → Type 0} {Q : Type 0} (fault : SeriesFault) (result : RingFault) → IsWithoutExponent fault result → OnWide fault P → ((n : ℤ) → P n → Q) → result ≡ ring.Wide → Q
 wide_without (Wide n) result e w f is = f n w
 wide_without Memory result e w f is = let z : ring.Memory ≡ ring.Wide = sym e ∙ is in cc
+
+is_empty-none : {A : Type 0} (xs : List A) → length xs ≡ 0 → is_empty xs ≡ true
+is_empty-none [] e = refl
+is_empty-none (x ∷ xs) e = absurd (omega arith)
+
+-- a sum where one side is zero
+module _ {A : Type 0} {IsValue : A → Type 0} {r : Operations A} (laws : RingLaws IsValue r) (a b : Terms A) (na : IsPoly IsValue r a) (nb : IsPoly IsValue r b) where
+  pub sum-zero : length b.coefficients ≡ 0 → poly_sum r a b ≡ a
+  sum-zero none = ap (poly_sum r a) ((poly_laws laws).only_nought b nb (is_empty-none b.coefficients none)) ∙ (poly_laws laws).add-nought a na
 
 -- the row whose normal form is p
 pub record IsRowOf {A : Type 0} (IsValue : A → Type 0) (r : Operations A) (low : ℤ) (items : List A) (p : Terms A) : Type 0 where

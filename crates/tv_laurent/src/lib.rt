@@ -3,6 +3,7 @@
 #![tactic(auto)]
 
 mod coefficient;
+mod copies;
 mod exponents;
 mod fault;
 mod normal;
@@ -16,7 +17,6 @@ pub use coefficient::Coefficient;
 pub use fault::SeriesFault;
 pub use poly::LPoly;
 pub use series::Series;
-pub use tv_laws_series::laws;
 
 #[cfg(test)]
 mod tests;

@@ -20,9 +20,13 @@ pub fn product_at<C: Ring>(alloc: Global, a: &[C], b: &[C], place: usize) -> Res
     ensures value { IfOk result (λ x. x ≡ convolution C.ring (at C.ring a.now) (at C.ring b.now) place) }
     ensures wide { IsErrOf result RingFault.Wide → limit < size_convolution C.ring (at C.ring a.now) (at C.ring b.now) place }
 {
-    let mut total = C::zero(alloc)?;
+    let begin = (place + 1).saturating_sub(b.len());
     let end = a.len().min(place + 1);
-    for i in (place + 1).saturating_sub(b.len())..end {
+    if end <= begin {
+        return C::zero(alloc);
+    }
+    let mut total = a[begin].mul(&b[place - begin])?;
+    for i in begin + 1..end {
         total = total.add(&a[i].mul(&b[place - i])?)?;
     }
     Ok(total)

@@ -7,8 +7,8 @@ ghost use Rattle.tv_laurent.specs.QuotientCalls.{QuotientReaches};
 use crate::{Coefficient, LPoly, Series, SeriesFault};
 use std::alloc::Global;
 use std::test::Fail;
-use tv_ring::{Residue, Ring, RingFault, Whole};
 use tv_laws_series::laws;
+use tv_ring::{Residue, Ring, RingFault, Whole};
 
 // 2^126
 const HALF: i128 = 85070591730234615865843651857942052864;
@@ -96,6 +96,9 @@ fn series(rt: HostRuntime) -> Result<(), Fail> {
     assert_eq!(rt; moved.upto(), 4);
     assert!(rt; shows(&c.add(&b)?, 0, &[1, 1, 2, 1]));
     assert!(rt; shows(&moved_to(moved, -2)?.cut(-1), -2, &[1, 1]));
+    let mut short = c.copy()?;
+    short.truncate(3);
+    assert!(rt; shows(&short, 2, &[1, 0]));
     assert!(rt; shows(&c.cut(-2), -1, &[]));
     Ok(())
 }
@@ -170,9 +173,11 @@ fn quotients_of_remainders(rt: HostRuntime) -> Result<(), Fail> {
     }
 }
 
-// The power `n` of the variable times `c`, where both are small.
+const FAR: i64 = 1000000000000;
+
+// The power `n` of the variable times `c`, where `n` is at most `FAR` and `c` reaches little.
 fn term<C: Ring>(alloc: Global, n: i64, c: C) -> Result<LPoly<C>, RingFault> {
-    if -4 <= n && n <= 4 && c.reach() <= 4 {
+    if -FAR <= n && n <= FAR && c.reach() <= 4 {
         LPoly::term(alloc, n, c)
     } else {
         Err(RingFault::Memory)
@@ -224,6 +229,8 @@ fn polynomials(rt: HostRuntime) -> Result<(), Fail> {
     zero.known();
     assert_eq!(rt; zero.span(), None);
     assert!(rt; zero.same(&LPoly::zero(rt.alloc())?));
+    let far = term(rt.alloc(), FAR, whole(1)?)?;
+    assert!(rt; far.add(&zero)?.same(&far) && zero.add(&far)?.same(&far));
     let half = term(rt.alloc(), -3, whole(HALF)?)?;
     let two = term(rt.alloc(), 1, whole(2)?)?;
     assert_eq!(rt; half.add(&half).err(), Some(RingFault::Wide));

@@ -4,13 +4,13 @@ use Rattle.std.specs.Int.{int_min}
 use Rattle.std.specs.List.{AllByRecursion}
 use Rattle.std.proofs.Common.{refl, ap, ◌∙◌, arith}
 use Rattle.std.proofs.lemmas.Int.{ints}
+use Rattle.tv_lemmas.specs.Naturals.{as_natural}
 use Rattle.tv_spec_plane.specs.declared.records.CompactEdge.{CompactEdge}
-use Rattle.tv_spec_plane.specs.Web.{Web, compact, normal_a, normal_b}
+use Rattle.tv_spec_plane.specs.Web.{Web, compact}
 use Rattle.tv_cells.specs.declared.legs.Legs.{Legs}
-use Rattle.tv_cells.specs.Costs.{edge_cost}
-use Rattle.tv_spec_boxes.specs.Assignments.{Rows, Assignment, all_legs, assignments, costs_on, edge_costs, overlaps_of}
+use Rattle.tv_spec_boxes.specs.Assignments.{Rows, Assignment, all_legs, assignments, sum_on, cost_by, edge_costs, overlaps_of}
 use Rattle.tv_spec_boxes.specs.Configurations.{boxes_left}
-use Rattle.tv_spec_boxes.specs.Numbers.{falls_on, low_of, least, lowest, as_natural, box_bound}
+use Rattle.tv_spec_boxes.specs.Numbers.{fall_by, low_of, least, lowest, box_bound}
 use Rattle.tv_laws_counts.specs.Ways.{ways_at, start_of, assignment_sign, assignment_coefficient}
 use Rattle.tv_laws_counts.specs.Laws.{BoxesWithin, StartsAbove, NoneBelowStart}
 use Rattle.tv_lemmas.proofs.Members.{all-onto, all-contains}
@@ -32,16 +32,16 @@ least-each f [] = tt
 least-each f (x ∷ xs) =
     (int_min-left (f x) (least f xs), all-onto (λ y. least f xs ≤ℤ f y) (λ y. int_min (f x) (least f xs) ≤ℤ f y) (λ y h. let step = int_min-right (f x) (least f xs) in omega (arith, ints)) xs (least-each f xs))
 
-falls_on-low : (w : Web) (es : List CompactEdge) (a : Assignment) → falls_on w es a ≤ℤ costs_on w es a
-falls_on-low w [] a = omega (arith, ints)
-falls_on-low w (e ∷ es) [] = omega (arith, ints)
-falls_on-low w (e ∷ es) (rows ∷ a) = sums-low (edge_cost rows (normal_a w e) (normal_b w e)) (falls_on w es a) (costs_on w es a) (falls_on-low w es a)
+falls-low : (w : Web) (es : List CompactEdge) (a : Assignment) → sum_on (fall_by w) es a ≤ℤ sum_on (cost_by w) es a
+falls-low w [] a = omega (arith, ints)
+falls-low w (e ∷ es) [] = omega (arith, ints)
+falls-low w (e ∷ es) (rows ∷ a) = sums-low (cost_by w e rows) (sum_on (fall_by w) es a) (sum_on (cost_by w) es a) (falls-low w es a)
   where
     sums-low : (x y z : ℤ) → y ≤ℤ z → (int_min (pos 0) x +ℤ y) ≤ℤ (x +ℤ z)
     sums-low x y z h = let step = int_min-right (pos 0) x in omega (arith, ints)
 
 low-start : (w : Web) (fixed : List Rows) (a : Assignment) → low_of w fixed a ≤ℤ start_of w fixed a
-low-start w fixed a = let falls = falls_on-low w (compact w) a in omega (arith, ints)
+low-start w fixed a = let falls = falls-low w (compact w) a in omega (arith, ints)
 
 pub starts_above : StartsAbove
 unfolding lowest

@@ -12,7 +12,7 @@ use Rattle.tv_spec_plane.specs.Web.{below}
 use Rattle.tv_partition.specs.Rows.{IsDiagram, size, diagrams}
 use Rattle.tv_partition.proofs.Members.{diagrams-are-all}
 use Rattle.tv_spec_boxes.specs.Assignments.{Rows, Assignment, choices}
-use Rattle.tv_spec_boxes.proofs.Sums.{flat_map-none}
+use Rattle.tv_lemmas.proofs.Lists.{flat_map-none}
 use Rattle.tv_laws_counts.specs.Ways.{IsAtMost}
 use Rattle.tv_lemmas.proofs.Lists.{flat_map-same, flat_map-same_on, flat_map-filter, filter-map, filter-flat_map, filter-same_on, filter-none}
 use Rattle.tv_lemmas.proofs.Members.{all-flat_map, all-map, all-any, all-filter, all-found}
@@ -31,7 +31,7 @@ pub record IsChoice (gs : List ℕ) (d : ℕ) (a : Assignment) : Type 0 where
 abbrev pub HasSize : ℕ → Rows → Type 0
 HasSize n rows = IsDiagram rows × (size rows ≡ n)
 
-own : (rows : Rows) → pointwise nat_eq rows rows ≡ true
+pub own : (rows : Rows) → pointwise nat_eq rows rows ≡ true
 own [] = refl
 own (row ∷ rows) = let e : nat_eq row row ≡ true = eq-eqb row row refl in rw e (own rows)
 
@@ -56,7 +56,7 @@ choices_are (g ∷ gs) d =
     (all-filter (λ (n : ℕ). Unit {0}) (λ (n : ℕ). nat_le (n * g) d ≡ true) (λ n. nat_le (n * g) d) (λ n none e. e) (below (suc d)) (all-any (λ (n : ℕ). Unit {0}) (λ n. tt) (below (suc d))))
 
 -- where each degree is at least 1, no diagram has more than d cells
-times-more : (n g : ℕ) → 0 < g → n ≤ n * g
+pub times-more : (n g : ℕ) → 0 < g → n ≤ n * g
 times-more n zero h = absurd (omega arith)
 times-more n (suc g) h = omega arith
 

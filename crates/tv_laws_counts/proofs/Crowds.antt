@@ -1,6 +1,6 @@
 -- The crowd of a class bounds its configurations, the ways to split boxes over the first corners of an assignment, and
 -- the counts of its corners.
-use Rattle.std.specs.Prelude.{◌≡◌, Contains, ℕ, suc, ◌+◌, ◌≤◌, true, ◌&&◌, int_le, ℤ, pos, negsuc, ◌≤ℤ◌, List, [], ◌∷◌, length}
+use Rattle.std.specs.Prelude.{◌≡◌, Contains, ℕ, suc, ◌≤◌, true, ◌&&◌, int_le, ℤ, pos, negsuc, ◌≤ℤ◌, List, length}
 use Rattle.std.specs.List.{AllByRecursion}
 use Rattle.std.proofs.Common.{refl, arith, le_trans}
 use Rattle.std.proofs.lemmas.Int.{ints}
@@ -10,8 +10,9 @@ use Rattle.tv_cells.specs.declared.legs.Legs.{Legs}
 use Rattle.tv_cells.specs.Extras.{AreDiagrams, count}
 use Rattle.tv_spec_boxes.specs.Assignments.{Rows, Assignment, all_legs, class_of, assignments, assignments_of, same_vector}
 use Rattle.tv_spec_boxes.specs.Configurations.{fillings, boxes_left}
-use Rattle.tv_spec_boxes.specs.Numbers.{lowest, box_bound, sum_of, crowd_on, crowd}
-use Rattle.tv_spec_boxes.proofs.Sums.{sum_of-term}
+use Rattle.tv_spec_boxes.specs.Numbers.{lowest, box_bound, crowd_on, crowd_at, crowd}
+use Rattle.tv_lemmas.specs.Sums.{sum_of}
+use Rattle.tv_lemmas.proofs.Sums.{sum_of-≤, sum_of-each, sum_of-term}
 use Rattle.tv_spec_boxes.proofs.Vectors.{same_vector-same}
 use Rattle.tv_spec_plane.specs.Graded.{IsGraded}
 use Rattle.tv_laws_counts.specs.Ways.{corner_ways, ways_at, IsListed}
@@ -34,25 +35,12 @@ crowd_on-ways legs (pos m) bound all h = crowd_on-term legs m bound all (omega (
 crowd_on-ways legs (negsuc m) bound all h = omega arith
 
 -- the crowd of a class
-abbrev crowd_at : Web → List Rows → ℕ → ℤ → Assignment → ℕ
-crowd_at w fixed d n a = crowd_on (all_legs w a fixed) (box_bound n (lowest w fixed d))
-
 between : (z : ℤ) (d : ℕ) → pos 0 ≤ℤ z → z ≤ℤ pos d → (int_le (pos 0) z && int_le z (pos d)) ≡ true
 between z d h k = grind (arith, ints)
 
 pub crowd_is : (w : Web) (fixed : List Rows) (d : ℕ) (n : ℤ) (v : List ℤ) → pos 0 ≤ℤ degree_of w.heights v → degree_of w.heights v ≤ℤ pos d → crowd w fixed d n v ≡ sum_of (crowd_at w fixed d n) (assignments_of w v)
 unfolding crowd
 crowd_is w fixed d n v h k = let yes = between (degree_of w.heights v) d h k in rw yes refl
-
-sum_of-≤ : {A : Type 0} (f g : A → ℕ) (xs : List A) → AllByRecursion (λ x. f x ≤ g x) xs → sum_of f xs ≤ sum_of g xs
-unfolding sum_of
-sum_of-≤ f g [] all = omega arith
-sum_of-≤ f g (x ∷ xs) all = let here = all.0 in let rest = sum_of-≤ f g xs all.1 in omega arith
-
-sum_of-each : {A : Type 0} (f : A → ℕ) (xs : List A) → AllByRecursion (λ x. f x ≤ sum_of f xs) xs
-unfolding sum_of
-sum_of-each f [] = tt
-sum_of-each f (x ∷ xs) = (let h : f x ≤ f x + sum_of f xs = omega arith in h, all-onto (λ y. f y ≤ sum_of f xs) (λ y. f y ≤ f x + sum_of f xs) (λ y h. let k : f y ≤ f x + sum_of f xs = omega arith in k) xs (sum_of-each f xs))
 
 of_class_listed : (w : Web) (d : ℕ) (v : List ℤ) → IsGraded w → degree_of w.heights v ≤ℤ pos d → AllByRecursion (Contains (assignments w d)) (assignments_of w v)
 of_class_listed w d v graded h =

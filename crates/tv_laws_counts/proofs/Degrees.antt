@@ -1,21 +1,21 @@
 -- The degree of an assignment's class is the sum of sizes times degrees, so in a graded web the assignments of a class
 -- are found among all of degree at most a bound.
-use Rattle.std.specs.Prelude.{◌≡◌, ℕ, zero, suc, ◌*◌, ◌≤◌, ◌<◌, true, nat_le, ℤ, pos, negsuc, ◌+ℤ◌, ◌*ℤ◌, ◌≤ℤ◌, ◌<ℤ◌, List, [], ◌∷◌, map, filter, length}
+use Rattle.std.specs.Prelude.{◌≡◌, ℕ, ◌*◌, ◌≤◌, ◌<◌, true, nat_le, ℤ, pos, negsuc, ◌+ℤ◌, ◌*ℤ◌, ◌≤ℤ◌, ◌<ℤ◌, List, [], ◌∷◌, map, filter, length}
 use Rattle.std.specs.List.{AllByRecursion}
 use Rattle.std.proofs.Common.{refl, sym, ap, ◌∙◌, arith}
 use Rattle.std.proofs.lemmas.Int.{ints}
 use Rattle.std.proofs.lemmas.List.{length-map}
 use Rattle.std.proofs.lemmas.Bool.Decides.{nat_tests}
+use Rattle.tv_lemmas.specs.Naturals.{as_natural}
 use Rattle.tv_lemmas.proofs.Integers.{diff_of, diff-same, diffs}
 use Rattle.tv_lemmas.proofs.Integers.{mul-add}
 use Rattle.tv_spec_plane.specs.declared.records.CompactEdge.{CompactEdge}
-use Rattle.tv_spec_plane.specs.Web.{Web, compact, class_entry, edge_class, edge_degree, degree_of}
+use Rattle.tv_spec_plane.specs.Web.{Web, compact, edge_class, edge_degree, degree_of}
 use Rattle.tv_partition.specs.Rows.{size}
-use Rattle.tv_spec_boxes.specs.Assignments.{Assignment, zeros, plus, times, class_on, class_of, weight, choices, assignments, same_vector}
-use Rattle.tv_spec_boxes.proofs.Vectors.{same_vector_tells}
+use Rattle.tv_spec_boxes.specs.Assignments.{Assignment, plus, times, class_on, class_of, choices, assignments, same_vector}
+use Rattle.tv_spec_boxes.proofs.Vectors.{same_vector_tells, length-class_of}
 use Rattle.tv_spec_boxes.proofs.OneCornerCrowd.{degree_zero}
 use Rattle.tv_spec_plane.specs.Graded.{HasDegree, IsGraded}
-use Rattle.std.proofs.lemmas.List.FromFn.{length-map-range_with_len}
 use Rattle.tv_laws_counts.specs.Ways.{IsListed}
 use Rattle.tv_laws_counts.specs.Laws.{AssignmentsByDegree, AssignmentsListed}
 use Rattle.tv_lemmas.proofs.Lists.{filter-weaker}
@@ -40,71 +40,52 @@ degree_of-times (h ∷ hs) n (x ∷ v) = omega (arith, ints, mul-exchange h (pos
 
 -- the degrees as natural numbers
 abbrev pub weights : Web → List CompactEdge → List ℕ
-weights w es = map (λ e. weight (edge_degree w e)) es
+weights w es = map (λ e. as_natural (edge_degree w e)) es
 
-weight-positive : (z : ℤ) → pos 0 <ℤ z → z ≡ pos (weight z)
-weight-positive (pos n) h = refl
-weight-positive (negsuc n) h = absurd (omega (arith, ints))
+pub as_natural-positive : (z : ℤ) → pos 0 <ℤ z → z ≡ pos (as_natural z)
+as_natural-positive (pos n) h = refl
+as_natural-positive (negsuc n) h = absurd (omega (arith, ints))
 
 pub weights_positive : (w : Web) (es : List CompactEdge) → AllByRecursion (HasDegree w) es → AllByRecursion (λ g. 0 < g) (weights w es)
 weights_positive w [] graded = tt
-weights_positive w (e ∷ es) graded = (let same = weight-positive (edge_degree w e) graded.0 in let up : pos 0 <ℤ edge_degree w e = graded.0 in omega (arith, ints), weights_positive w es graded.1)
+weights_positive w (e ∷ es) graded = (let same = as_natural-positive (edge_degree w e) graded.0 in let up : pos 0 <ℤ edge_degree w e = graded.0 in omega (arith, ints), weights_positive w es graded.1)
 
 class_on-degree : (w : Web) (es : List CompactEdge) → AllByRecursion (HasDegree w) es → (a : Assignment) → degree_of w.heights (class_on w es a) ≡ pos (degree_by (weights w es) a)
 class_on-degree w [] graded a = degree_zero w.heights (length w.points)
 class_on-degree w (e ∷ es) graded [] = degree_zero w.heights (length w.points)
 class_on-degree w (e ∷ es) graded (rows ∷ a) =
-    let one : edge_degree w e ≡ pos (weight (edge_degree w e)) = weight-positive (edge_degree w e) graded.0 in
-    let first : pos (size rows) *ℤ edge_degree w e ≡ pos (size rows * weight (edge_degree w e)) = ap (λ z. pos (size rows) *ℤ z) one in
+    let one : edge_degree w e ≡ pos (as_natural (edge_degree w e)) = as_natural-positive (edge_degree w e) graded.0 in
+    let first : pos (size rows) *ℤ edge_degree w e ≡ pos (size rows * as_natural (edge_degree w e)) = ap (λ z. pos (size rows) *ℤ z) one in
     degree_of-plus w.heights (times (size rows) (edge_class w e)) (class_on w es a)
     ∙ omega (arith, ints, degree_of-times w.heights (size rows) (edge_class w e), class_on-degree w es graded.1 a)
 
 pub class_of-degree : (w : Web) → IsGraded w → (a : Assignment) → degree_of w.heights (class_of w a) ≡ pos (degree_by (weights w (compact w)) a)
 class_of-degree w graded a = class_on-degree w (compact w) graded a
 
-weight-within : (z : ℤ) (d : ℕ) → z ≤ℤ pos d → weight z ≤ d
-weight-within (pos n) d h = omega (arith, ints)
-weight-within (negsuc n) d h = omega arith
+as_natural-within : (z : ℤ) (d : ℕ) → z ≤ℤ pos d → as_natural z ≤ d
+as_natural-within (pos n) d h = omega (arith, ints)
+as_natural-within (negsuc n) d h = omega arith
 
 -- a class has the degree that its assignments have
-class-within : (w : Web) → IsGraded w → (v : List ℤ) (a : Assignment) → same_vector (class_of w a) v ≡ true → nat_le (degree_by (weights w (compact w)) a) (weight (degree_of w.heights v)) ≡ true
+class-within : (w : Web) → IsGraded w → (v : List ℤ) (a : Assignment) → same_vector (class_of w a) v ≡ true → nat_le (degree_by (weights w (compact w)) a) (as_natural (degree_of w.heights v)) ≡ true
 class-within w graded v a e =
     let same : class_of w a ≡ v = same_vector_tells (class_of w a) v e in
     let degree : degree_of w.heights v ≡ pos (degree_by (weights w (compact w)) a) = ap (degree_of w.heights) (sym same) ∙ class_of-degree w graded a in
-    let exact : weight (degree_of w.heights v) ≡ degree_by (weights w (compact w)) a = ap weight degree in
+    let exact : as_natural (degree_of w.heights v) ≡ degree_by (weights w (compact w)) a = ap as_natural degree in
     grind (arith, nat_tests)
 
 pub assignments_by_degree : AssignmentsByDegree
 unfolding assignments
 assignments_by_degree w d v graded h =
-    let m : ℕ = weight (degree_of w.heights v) in
-    ap (filter (λ a. same_vector (class_of w a) v)) (choices-within (weights w (compact w)) (weights_positive w (compact w) graded) m d (weight-within (degree_of w.heights v) d h))
+    let m : ℕ = as_natural (degree_of w.heights v) in
+    ap (filter (λ a. same_vector (class_of w a) v)) (choices-within (weights w (compact w)) (weights_positive w (compact w) graded) m d (as_natural-within (degree_of w.heights v) d h))
     ∙ filter-weaker (λ a. same_vector (class_of w a) v) (λ a. nat_le (degree_by (weights w (compact w)) a) m) (class-within w graded v) (choices (weights w (compact w)) d)
-
--- the length of a class
-length-zeros : (n : ℕ) → length (zeros n) ≡ n
-length-zeros zero = refl
-length-zeros (suc n) = ap suc (length-zeros n)
-
-length-plus : (u v : List ℤ) → length u ≡ length v → length (plus u v) ≡ length v
-length-plus [] v e = refl
-length-plus (x ∷ u) [] e = e
-length-plus (x ∷ u) (y ∷ v) e = ap suc (length-plus u v (omega arith))
-
-class_on-length : (w : Web) (es : List CompactEdge) (a : Assignment) → length (class_on w es a) ≡ length w.points
-class_on-length w [] a = length-zeros (length w.points)
-class_on-length w (e ∷ es) [] = length-zeros (length w.points)
-class_on-length w (e ∷ es) (rows ∷ a) =
-    let first = length-map (edge_class w e) (λ x. pos (size rows) *ℤ x) in
-    let rest = class_on-length w es a in
-    let entries = length-map-range_with_len (class_entry w e) 0 (length w.points) in
-    length-plus (times (size rows) (edge_class w e)) (class_on w es a) (omega arith) ∙ rest
 
 is_listed : (w : Web) (d : ℕ) → IsGraded w → (a : Assignment) → IsChoice (weights w (compact w)) d a → IsListed w d a
 is_listed w d graded a is = record {
-  one_each = is.one_each ∙ length-map (compact w) (λ e. weight (edge_degree w e));
+  one_each = is.one_each ∙ length-map (compact w) (λ e. as_natural (edge_degree w e));
   diagrams = choice_small (weights w (compact w)) d a (weights_positive w (compact w) graded) is.one_each is.diagrams is.within;
-  entries = class_on-length w (compact w) a;
+  entries = length-class_of w a;
   least = let e = class_of-degree w graded a in omega (arith, ints);
   most = let e = class_of-degree w graded a in let h = is.within in omega (arith, ints);
 }

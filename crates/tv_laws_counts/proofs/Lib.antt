@@ -4,6 +4,9 @@ pub mod Lists
 pub mod InRings
 pub mod Fillings
 pub mod Choices
+pub mod Assigned
+pub mod SetsOnce
+pub mod Configured
 pub mod SignedCounts
 pub mod Degrees
 pub mod Bounds

@@ -10,6 +10,6 @@ pub length-numbered : {A : Type 0} (f : ℕ → List A) (k n : ℕ) → length (
 length-numbered f k zero = sym (total_below-none (λ i. length (f (k + i))))
 length-numbered f k (suc n) =
     length-append (f k) (flat_map f (range_with_len (k + 1) n))
-    ∙ (ap (λ s. length (f k) + s) (length-numbered f (k + 1) n ∙ total_below-same (λ i. length (f (suc k + i))) (after_first (λ i. length (f (k + i)))) n (λ i h. ap (λ j. length (f j)) (omega arith)))
+    ∙ (ap (λ s. length (f k) + s) (length-numbered f (k + 1) n ∙ total_below-same (λ i. length (f ((k + 1) + i))) (after_first (λ i. length (f (k + i)))) n (λ i h. ap (λ j. length (f j)) (omega arith)))
     ∙ (ap (λ j. length (f j) + total_below (after_first (λ i. length (f (k + i)))) n) (omega arith)
     ∙ sym (total_below-front (λ i. length (f (k + i))) n)))

@@ -1,30 +1,21 @@
 -- The signed count of a class is the sum of the coefficients of its assignments.
-use Rattle.std.specs.Prelude.{◌≡◌, ℕ, ℤ, pos, ◌+ℤ◌, ◌*ℤ◌, List, [], ◌∷◌, ◌++◌, map}
-use Rattle.std.specs.List.{flat_map, AllByRecursion}
-use Rattle.std.proofs.Common.{refl, ap, ◌∙◌, arith}
-use Rattle.std.proofs.lemmas.Int.{ints}
+use Rattle.std.specs.Prelude.{◌≡◌, ℕ, ℤ, pos, ◌+ℤ◌, ◌*ℤ◌, List, [], ◌∷◌, map}
+use Rattle.std.specs.List.{AllByRecursion}
+use Rattle.std.proofs.Common.{ap, ◌∙◌}
+use Rattle.tv_lemmas.specs.Naturals.{as_natural}
 use Rattle.tv_spec_plane.specs.Web.{Web, compact, edge_degree, degree_of, sign}
 use Rattle.tv_partition.specs.Rows.{IsDiagram}
 use Rattle.tv_cells.specs.declared.cell.Cell.{Cell}
-use Rattle.tv_spec_boxes.specs.Assignments.{Rows, Assignment, all_legs, class_of, edge_twist, assignments, assignments_of, same_vector, weight}
-use Rattle.tv_spec_boxes.specs.Configurations.{configuration, configuration_sign, configurations_on, fillings_of, boxes_left, total, signed_count}
-use Rattle.tv_spec_boxes.proofs.Sums.{total-same, total-alike}
+use Rattle.tv_spec_boxes.specs.Assignments.{Rows, Assignment, all_legs, class_of, edge_twist, assignments, assignments_of, same_vector}
+use Rattle.tv_spec_boxes.specs.Configurations.{configuration, configuration_sign, configurations_on, fillings_of, boxes_left, signed_count}
+use Rattle.tv_lemmas.specs.Sums.{total}
+use Rattle.tv_lemmas.proofs.Sums.{total-flat_map, total-same, total-alike}
 use Rattle.tv_spec_boxes.proofs.Members.{IsOf, configurations_are}
 use Rattle.tv_laws_counts.specs.Ways.{assignment_sign, assignment_coefficient}
 use Rattle.tv_laws_counts.specs.Laws.{SignedCountIs}
 use Rattle.tv_lemmas.proofs.Members.{all-onto, all-both, all-filter, all-pieces}
 use Rattle.tv_laws_counts.proofs.Fillings.{configurations_counted}
 use Rattle.tv_laws_counts.proofs.Choices.{IsChoice, choices_are}
-
-pub total-append : {A : Type 0} (f : A → ℤ) (xs ys : List A) → total f (xs ++ ys) ≡ total f xs +ℤ total f ys
-unfolding total
-total-append f [] ys = omega (arith, ints)
-total-append f (x ∷ xs) ys = omega (arith, ints, total-append f xs ys)
-
-pub total-flat_map : {A B : Type 0} (f : B → ℤ) (g : A → List B) (xs : List A) → total f (flat_map g xs) ≡ total (λ x. total f (g x)) xs
-unfolding total
-total-flat_map f g [] = refl
-total-flat_map f g (x ∷ xs) = total-append f (g x) (flat_map g xs) ∙ ap (λ s. total f (g x) +ℤ s) (total-flat_map f g xs)
 
 -- each configuration on an assignment at n has one sign
 signs_on : (w : Web) (fixed : List Rows) (v : List ℤ) (n : ℤ) (a : Assignment) (fills : List (List (List Cell))) → AllByRecursion (IsOf w fixed v n) (map (configuration a) fills) → AllByRecursion (λ c. configuration_sign w fixed c ≡ assignment_sign w a n) (map (configuration a) fills)
@@ -41,13 +32,13 @@ on_assignment w fixed v n also a all of =
 pub assignments_have_diagrams : (w : Web) (d : ℕ) → AllByRecursion (λ a. AllByRecursion IsDiagram a) (assignments w d)
 unfolding assignments
 assignments_have_diagrams w d =
-    let gs : List ℕ = map (λ e. weight (edge_degree w e)) (compact w) in
+    let gs : List ℕ = map (λ e. as_natural (edge_degree w e)) (compact w) in
     all-onto (IsChoice gs d) (λ (a : Assignment). AllByRecursion IsDiagram a) (λ a is. is.diagrams) _ (choices_are gs d)
 
 pub assignments_of_have_diagrams : (w : Web) (v : List ℤ) → AllByRecursion (λ a. AllByRecursion IsDiagram a) (assignments_of w v)
 assignments_of_have_diagrams w v =
     all-filter (λ (a : Assignment). AllByRecursion IsDiagram a) (λ (a : Assignment). AllByRecursion IsDiagram a) (λ a. same_vector (class_of w a) v) (λ a is e. is)
-    (assignments w (weight (degree_of w.heights v))) (assignments_have_diagrams w (weight (degree_of w.heights v)))
+    (assignments w (as_natural (degree_of w.heights v))) (assignments_have_diagrams w (as_natural (degree_of w.heights v)))
 
 pub signed_count_is : SignedCountIs
 unfolding signed_count

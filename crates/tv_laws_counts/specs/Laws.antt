@@ -15,13 +15,14 @@
 -- WaysLast              == a further corner at the end is one more convolution
 use Rattle.std.specs.Prelude.{◌≡◌, Contains, ℕ, ◌≤◌, ℤ, pos, ◌≤ℤ◌, ◌<ℤ◌, List, [], ◌∷◌, ◌++◌, filter, length, take}
 use Rattle.std.specs.List.{AllByRecursion}
+use Rattle.tv_lemmas.specs.Sums.{total, sum_of}
 use Rattle.tv_spec_plane.specs.Web.{Web, degree_of}
 use Rattle.tv_partition.specs.Rows.{IsDiagram}
 use Rattle.tv_cells.specs.declared.legs.Legs.{Legs}
 use Rattle.tv_cells.specs.Extras.{AreDiagrams, count}
 use Rattle.tv_spec_boxes.specs.Assignments.{Rows, Assignment, all_legs, class_of, assignments, assignments_of, same_vector}
-use Rattle.tv_spec_boxes.specs.Configurations.{fillings, boxes_left, configurations_on, total, signed_count}
-use Rattle.tv_spec_boxes.specs.Numbers.{lowest, box_bound, sum_of, crowd}
+use Rattle.tv_spec_boxes.specs.Configurations.{fillings, boxes_left, configurations_on, signed_count}
+use Rattle.tv_spec_boxes.specs.Numbers.{lowest, box_bound, crowd}
 use Rattle.tv_spec_plane.specs.Graded.{IsGraded}
 use Rattle.tv_laws_counts.specs.Ways.{spread, ways, corner_ways, ways_at, start_of, assignment_coefficient, IsListed}
 

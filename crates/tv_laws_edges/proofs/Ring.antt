@@ -1,5 +1,5 @@
 -- Equations between sums and products of whole numbers, for vectors u, v and w of the plane.
-use Rattle.std.specs.Prelude.{◌≡◌, ℤ, ◌+ℤ◌, ◌-ℤ◌, ◌*ℤ◌, neg_ℤ}
+use Rattle.std.specs.Prelude.{◌≡◌, ℤ, ◌+ℤ◌, ◌-ℤ◌, ◌*ℤ◌}
 use Rattle.std.proofs.Common.{arith}
 use Rattle.tv_lemmas.proofs.Integers.{diff_of, diff-same, diffs}
 

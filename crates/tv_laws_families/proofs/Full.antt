@@ -1,5 +1,6 @@
 -- A family with the series of every assignment of degree at most d is full, and full families have the same coefficients.
 use Rattle.std.proofs.Common.{◌≡◌, ℕ, ℤ, pos, ◌≤ℤ◌, List, [], ◌∷◌, Contains, Option, Some, None, refl, sym, ◌∙◌, ap, subst}
+use Rattle.tv_lemmas.specs.Sums.{total}
 use Rattle.tv_laws_series.proofs.NormalForm.{bool_cases}
 use Rattle.std.specs.List.{AllByRecursion}
 use Rattle.tv_ring.specs.Operations.{Operations}
@@ -8,7 +9,7 @@ use Rattle.tv_spec_plane.specs.Web.{Web, degree_of}
 use Rattle.tv_partition.specs.Rows.{IsDiagram}
 use Rattle.tv_spec_boxes.specs.Assignments.{Rows, assignments, class_of, same_vector}
 use Rattle.tv_spec_boxes.specs.Classes.{IsClass}
-use Rattle.tv_spec_boxes.specs.Configurations.{total, signed_count}
+use Rattle.tv_spec_boxes.specs.Configurations.{signed_count}
 use Rattle.tv_spec_series.specs.Families.{Row, Family, classes, find, series_coefficient, coefficient_of, IsRow, IsFamily}
 use Rattle.tv_spec_series.proofs.Order.{same_vector-equal}
 use Rattle.tv_spec_series.proofs.Rows.{find-here, find-next, found_class, found_all, all_classes}

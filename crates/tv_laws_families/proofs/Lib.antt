@@ -10,3 +10,5 @@ pub mod Lowest
 pub mod ZeroClass
 pub mod Only
 pub mod ReducedFamilies
+pub mod Unit
+pub mod ReducedClasses

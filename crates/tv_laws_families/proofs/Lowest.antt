@@ -3,13 +3,13 @@ use Rattle.std.proofs.Common.{◌≡◌, ℕ, ap, ◌∙◌, arith}
 use Rattle.std.specs.Prelude.{Contains, pos, ◌*ℤ◌, filter}
 use Rattle.std.specs.List.{AllByRecursion}
 use Rattle.std.proofs.lemmas.Int.{ints}
+use Rattle.tv_lemmas.specs.Sums.{total}
 use Rattle.tv_spec_boxes.specs.Assignments.{class_of, assignments, same_vector}
-use Rattle.tv_spec_boxes.specs.Configurations.{total}
 use Rattle.tv_laws_counts.specs.Ways.{assignment_coefficient}
 use Rattle.tv_lemmas.proofs.Members.{all-filter, all-members}
 use Rattle.tv_laws_counts.proofs.Bounds.{starts_above, none_below_start}
 use Rattle.tv_laws_counts.proofs.Degrees.{assignments_by_degree}
-use Rattle.tv_spec_boxes.proofs.Sums.{total-alike}
+use Rattle.tv_lemmas.proofs.Sums.{total-alike}
 use Rattle.tv_laws_counts.proofs.SignedCounts.{signed_count_is}
 use Rattle.tv_laws_families.specs.Laws.{NothingBelow}
 

@@ -6,7 +6,7 @@ use Rattle.tv_ring.specs.Operations.{Operations}
 use Rattle.tv_ring.specs.Sums.{whole_times}
 use Rattle.tv_laws_series.proofs.NormalForm.{bool_cases}
 use Rattle.tv_spec_plane.specs.Web.{Web}
-use Rattle.tv_spec_boxes.specs.Assignments.{Rows, no_legs, same_vector}
+use Rattle.tv_spec_boxes.specs.Assignments.{Rows, same_vector}
 use Rattle.tv_spec_boxes.specs.Classes.{IsClass, IsBefore, ClassesRise, AreClasses}
 use Rattle.tv_spec_series.specs.Families.{Row, classes, coefficient, find, series_coefficient}
 use Rattle.tv_spec_series.specs.Reduced.{IsReduced, full_coefficient, zero_coefficient}
@@ -16,7 +16,6 @@ use Rattle.tv_lemmas.proofs.Members.{all-onto, all-contains, all-members}
 use Rattle.tv_spec_series.specs.ReducedFamilies.{IsReducedRow}
 use Rattle.tv_laws_families.specs.Laws.{ReducedIsOnly}
 use Rattle.tv_laws_families.proofs.Products.{only_quotient_is}
-use Rattle.tv_laws_families.proofs.ZeroClass.{begins_with_one}
 
 -- ---- rising lists with the same members are one
 
@@ -56,14 +55,14 @@ same_classes w d us vs is is' = same_members w.heights us vs is.rises is'.rises 
 
 -- ---- rows of the same class have the same coefficients
 
-module _ {A : Type 0} (r : Operations A) (w : Web) (fixed : List Rows) (n : ℤ) (unit : zero_coefficient w fixed (pos 0) ≡ pos 1) where
-  same_row : (x y : Row A) → x.class ≡ y.class → IsReducedRow r w fixed n x → IsReducedRow r w fixed n y → (i : ℤ) → i ≤ℤ n → coefficient r x.series i ≡ coefficient r y.series i
+module _ {A : Type 0} (r : Operations A) (w : Web) (fixed : List Rows) (d : ℕ) (n : ℤ) where
+  same_row : (x y : Row A) → x.class ≡ y.class → IsReducedRow r w fixed d n x → IsReducedRow r w fixed d n y → (i : ℤ) → i ≤ℤ n → coefficient r x.series i ≡ coefficient r y.series i
   same_row x y e is is' i h =
       let P : List ℤ → Type 0 = λ u. IsReduced w fixed n u is'.series in
-      let same = only_quotient_is n (full_coefficient w fixed x.class) (zero_coefficient w fixed) is.series is'.series unit is.reduced (subst P (sym e) is'.reduced) i h in
+      let same = only_quotient_is n (full_coefficient w fixed x.class) (zero_coefficient w fixed) is.series is'.series is.reduced (subst P (sym e) is'.reduced) i h in
       is.values i h ∙ (ap (whole_times r) same ∙ sym (is'.values i h))
 
-  same_found : (xs ys : List (Row A)) → classes xs ≡ classes ys → AllByRecursion (IsReducedRow r w fixed n) xs → AllByRecursion (IsReducedRow r w fixed n) ys → (v : List ℤ) (i : ℤ) → i ≤ℤ n → series_coefficient r i (find v xs) ≡ series_coefficient r i (find v ys)
+  same_found : (xs ys : List (Row A)) → classes xs ≡ classes ys → AllByRecursion (IsReducedRow r w fixed d n) xs → AllByRecursion (IsReducedRow r w fixed d n) ys → (v : List ℤ) (i : ℤ) → i ≤ℤ n → series_coefficient r i (find v xs) ≡ series_coefficient r i (find v ys)
   same_found [] [] e all all' v i h = refl
   same_found [] (y ∷ ys) e all all' v i h = absurd (cc)
   same_found (x ∷ xs) [] e all all' v i h = absurd (cc)
@@ -75,6 +74,6 @@ module _ {A : Type 0} (r : Operations A) (w : Web) (fixed : List Rows) (n : ℤ)
       (λ b. ap (series_coefficient r i) (find-next v x xs b) ∙ (same_found xs ys rest all.1 all'.1 v i h ∙ sym (ap (series_coefficient r i) (find-next v y ys (subst (λ u. same_vector u v ≡ false) first b)))))
 
 pub reduced_is_only : {A : Type 0} (r : Operations A) → ReducedIsOnly r
-reduced_is_only r w d n f g graded is is' =
+reduced_is_only r w fixed d n f g is is' =
     let same = same_classes w d (classes f.rows) (classes g.rows) is.classes is'.classes in
-    record { classes = same; coefficients = λ v i h. same_found r w (no_legs w) n (begins_with_one w graded).unit f.rows g.rows same is.rows is'.rows v i h }
+    record { classes = same; coefficients = λ v i h. same_found r w fixed d n f.rows g.rows same is.rows is'.rows v i h }

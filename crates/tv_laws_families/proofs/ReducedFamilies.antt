@@ -38,15 +38,16 @@ module _ {A : Type 0} {IsValue : A → Type 0} {r : Operations A} (laws : RingLa
     none = λ i below. nothing_below w fixed d x.class i graded diagrams is.place.within below;
   }
 
-  reduced_row : (x : Row A) → IsRow IsValue r w.heights (pos d) n x → IsFullRow r w fixed d n x → Reaches n b x → IsReducedRow r w fixed n (divided_row r b x)
+  reduced_row : (x : Row A) → IsRow IsValue r w.heights (pos d) n x → IsFullRow r w fixed d n x → Reaches n b x → IsReducedRow r w fixed d n (divided_row r b x)
   reduced_row x is full reaches = let given = row_given x is full reaches in record {
     series = _;
     reduced = given_quotient laws n (full_coefficient w fixed x.class) (zero_coefficient w fixed) x.series b given;
     values = quotient_value laws n (full_coefficient w fixed x.class) (zero_coefficient w fixed) x.series b given;
     known = quotient_known laws n (full_coefficient w fixed x.class) (zero_coefficient w fixed) x.series b given;
+    low = full.low;
   }
 
-  reduced_rows : (xs : List (Row A)) → AllByRecursion (IsRow IsValue r w.heights (pos d) n) xs → AllByRecursion (IsFullRow r w fixed d n) xs → AllByRecursion (Reaches n b) xs → AllByRecursion (IsReducedRow r w fixed n) (map (divided_row r b) xs)
+  reduced_rows : (xs : List (Row A)) → AllByRecursion (IsRow IsValue r w.heights (pos d) n) xs → AllByRecursion (IsFullRow r w fixed d n) xs → AllByRecursion (Reaches n b) xs → AllByRecursion (IsReducedRow r w fixed d n) (map (divided_row r b) xs)
   reduced_rows [] is full reaches = tt
   reduced_rows (x ∷ xs) is full reaches = (reduced_row x is.0 full.0 reaches.0, reduced_rows xs is.1 full.1 reaches.1)
 

@@ -1,6 +1,6 @@
 -- A series of multiples of one, divided by another one that begins with one, has the multiples of the quotient.
 use Rattle.std.proofs.Common.{◌≡◌, ℕ, suc, ◌-◌, ◌<◌, ◌≤◌, min, length, refl, sym, ap, ◌∙◌, arith}
-use Rattle.std.specs.Prelude.{ℤ, pos, ◌+ℤ◌, ◌≤ℤ◌, ◌<ℤ◌, int_lt, true, false, if◌then◌else◌}
+use Rattle.std.specs.Prelude.{ℤ, pos, ◌+ℤ◌, ◌≤ℤ◌, ◌<ℤ◌, int_lt, if◌then◌else◌}
 use Rattle.std.specs.Int.{int_min}
 use Rattle.std.proofs.lemmas.Int.{ints, by_lt_z, clamps}
 use Rattle.tv_ring.specs.Operations.{Operations, RingLaws}
@@ -19,9 +19,11 @@ use Rattle.tv_laws_series.proofs.Exponents.{above_is, above_same, above_adds}
 use Rattle.tv_laws_series.proofs.Quotients.{quotient, quotient-convolution, only_quotient, length-quotients}
 use Rattle.tv_laws_series.proofs.SeriesQuotients.{value_series_quotient, quotient-product}
 use Rattle.tv_spec_series.specs.Families.{coefficient}
-use Rattle.tv_spec_series.specs.Reduced.{from, product_at, IsQuotient}
-use Rattle.tv_spec_series.proofs.Coefficients.{coefficient_below, coefficient_at, coefficient-cut, coefficient-product, upto-cut, value_coefficient}
-use Rattle.tv_laws_families.proofs.Products.{multiples, convolution-multiples, product-below, product-at}
+use Rattle.tv_spec_series.specs.Reduced.{product_at, IsQuotient}
+use Rattle.tv_spec_series.proofs.Products.{from, product-below, product-at}
+use Rattle.tv_spec_series.proofs.Order.{int_lt-true, int_lt-false}
+use Rattle.tv_laws_series.proofs.Coefficients.{coefficient_below, coefficient_at, coefficient-cut, coefficient-product, upto-cut, value_coefficient}
+use Rattle.tv_laws_families.proofs.Products.{multiples, convolution-multiples}
 
 -- what is known of dividend and divisor
 pub record IsGiven {A : Type 0} (IsValue : A → Type 0) (r : Operations A) (n : ℤ) (z g : ℤ → ℤ) (a b : Terms A) : Type 0 where
@@ -37,34 +39,30 @@ pub record IsGiven {A : Type 0} (IsValue : A → Type 0) (r : Operations A) (n :
   pub least : ℤ
   pub none : (i : ℤ) → i <ℤ least → z i ≡ pos 0
 
-int_lt-is : (a b : ℤ) → a <ℤ b → int_lt a b ≡ true
-int_lt-is a b h = grind (arith, ints)
-
-int_lt-not : (a b : ℤ) → b ≤ℤ a → int_lt a b ≡ false
-int_lt-not a b h = grind (arith, ints)
-
 -- the quotient from an exponent on
 abbrev pub quotient_from : (ℤ → ℤ) → (ℤ → ℤ) → ℤ → ℤ → ℤ
 quotient_from z g low i = if int_lt i low then pos 0 else quotient wholes (from z low) (from g (pos 0)) (above low i)
 
 pub quotient_from-below : (z g : ℤ → ℤ) (low i : ℤ) → i <ℤ low → quotient_from z g low i ≡ pos 0
-quotient_from-below z g low i h = rw (int_lt-is i low h) refl
+quotient_from-below z g low i h = rw (int_lt-true i low h) refl
 
 pub quotient_from-at : (z g : ℤ → ℤ) (low : ℤ) (k : ℕ) → quotient_from z g low (low +ℤ pos k) ≡ quotient wholes (from z low) (from g (pos 0)) k
 quotient_from-at z g low k =
     let e : above low (low +ℤ pos k) ≡ k = omega (arith, ints, above_is low (low +ℤ pos k)) in
-    rw (int_lt-not (low +ℤ pos k) low (omega (arith, ints)), e) refl
+    rw (int_lt-false (low +ℤ pos k) low (omega (arith, ints)), e) refl
 
 unfoldable pub quotient_is : (n : ℤ) (z g : ℤ → ℤ) (low : ℤ) → g (pos 0) ≡ pos 1 → ((j : ℤ) → j <ℤ pos 0 → g j ≡ pos 0) → ((i : ℤ) → i <ℤ low → z i ≡ pos 0) → IsQuotient n z g (quotient_from z g low)
 quotient_is n z g low one begins none = record {
   low = low;
+  first = pos 0;
   none = quotient_from-below z g low;
-  begins = begins;
+  begins = record { none = begins; some = λ e. omega (arith, ints) };
   product = λ m h. by_lt_z m low
-      (λ below. product-below low (quotient_from z g low) g m below ∙ sym (none m below))
+      (λ below. product-below low (pos 0) (quotient_from z g low) g m (omega (arith, ints)) ∙ sym (none m below))
       (λ reached. let e : low +ℤ pos (above low m) ≡ m = above_adds low m reached in
-      ap (product_at low (quotient_from z g low) g) (sym e)
-      ∙ (product-at low (quotient_from z g low) g (above low m)
+      let at : (low +ℤ pos 0) +ℤ pos (above low m) ≡ m = omega (arith, ints) in
+      ap (product_at low (pos 0) (quotient_from z g low) g) (sym at)
+      ∙ (product-at low (pos 0) (quotient_from z g low) g (above low m)
       ∙ (convolution-same wholes (from (quotient_from z g low) low) (quotient wholes (from z low) (from g (pos 0))) (from g (pos 0)) (from g (pos 0)) (above low m) (λ i _. quotient_from-at z g low i) (λ i _. refl)
       ∙ (quotient-convolution whole_laws (from z low) (from g (pos 0)) (above low m) (λ i. tt) (λ i. tt) one ∙ ap z e))));
 }
@@ -161,6 +159,10 @@ module _ {A : Type 0} {IsValue : A → Type 0} {r : Operations A} (laws : RingLa
     pub given_quotient-low : given_quotient.low ≡ int_min a.low given.least
     unfolding given_quotient quotient_is
     given_quotient-low = refl
+
+    pub given_quotient-first : given_quotient.first ≡ pos 0
+    unfolding given_quotient quotient_is
+    given_quotient-first = refl
 
     pub quotient_known : upto (series_quotient r a b) ≡ n
     quotient_known =

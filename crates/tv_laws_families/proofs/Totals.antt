@@ -1,15 +1,14 @@
 -- What the assignments of one class among some add to the count, and in how many ways.
 use Rattle.std.specs.Prelude.{◌≡◌, ℕ, ◌+◌, ◌*◌, ◌≤◌, ℤ, pos, negsuc, ◌+ℤ◌, unsigned_abs, Bool, true, false, cond, nat_eq, List, [], ◌∷◌, ◌++◌}
 use Rattle.std.proofs.Common.{refl, sym, ap, ◌∙◌, arith, append-nil}
-use Rattle.std.proofs.lemmas.Int.{ints, unsigned_abs-mul}
+use Rattle.std.proofs.lemmas.Int.{unsigned_abs-mul}
 use Rattle.std.proofs.lemmas.List.Elements.{filter-append}
+use Rattle.tv_lemmas.specs.Sums.{total, sum_of}
 use Rattle.tv_spec_plane.specs.Web.{Web, sign, parity}
 use Rattle.tv_spec_boxes.specs.Assignments.{Rows, Assignment, all_legs, class_of, edge_twist, same_vector}
-use Rattle.tv_spec_boxes.specs.Configurations.{boxes_left, total}
-use Rattle.tv_spec_boxes.specs.Numbers.{sum_of}
+use Rattle.tv_spec_boxes.specs.Configurations.{boxes_left}
 use Rattle.tv_laws_counts.specs.Ways.{ways_at, assignment_sign, assignment_coefficient}
-use Rattle.tv_spec_boxes.proofs.Sums.{total-one}
-use Rattle.tv_laws_counts.proofs.SignedCounts.{total-append}
+use Rattle.tv_lemmas.proofs.Sums.{total-append, total-one, total-size, sum_of-append, sum_of-one}
 use Rattle.tv_laws_families.specs.Glued.{of_class, class_total}
 
 abbrev pub ways_on : Web → List Rows → ℤ → Assignment → ℕ
@@ -34,7 +33,7 @@ of_class-other : (w : Web) (v : List ℤ) (front : List Assignment) (a : Assignm
 of_class-other w v front a e = filter-append (λ b. same_vector (class_of w b) v) front (a ∷ []) ∙ (ap (λ t. of_class w v front ++ cond t (a ∷ []) []) e ∙ append-nil (of_class w v front))
 
 pub class_total-none : (w : Web) (fixed : List Rows) (v : List ℤ) (i : ℤ) → class_total w fixed v i [] ≡ pos 0
-unfolding class_total total
+unfolding class_total
 class_total-none w fixed v i = refl
 
 pub class_total-here : (w : Web) (fixed : List Rows) (v : List ℤ) (i : ℤ) (front : List Assignment) (a : Assignment) → same_vector (class_of w a) v ≡ true → class_total w fixed v i (front ++ a ∷ []) ≡ class_total w fixed v i front +ℤ assignment_coefficient w fixed a i
@@ -49,16 +48,6 @@ class_total-here w fixed v i front a e =
 pub class_total-other : (w : Web) (fixed : List Rows) (v : List ℤ) (i : ℤ) (front : List Assignment) (a : Assignment) → same_vector (class_of w a) v ≡ false → class_total w fixed v i (front ++ a ∷ []) ≡ class_total w fixed v i front
 class_total-other w fixed v i front a e =
     class_total_is w fixed v i (front ++ a ∷ []) ∙ (ap (total (λ b. assignment_coefficient w fixed b i)) (of_class-other w v front a e) ∙ sym (class_total_is w fixed v i front))
-
--- a sum over a list and one more part
-pub sum_of-append : {A : Type 0} (f : A → ℕ) (xs ys : List A) → sum_of f (xs ++ ys) ≡ sum_of f xs + sum_of f ys
-unfolding sum_of
-sum_of-append f [] ys = omega arith
-sum_of-append f (x ∷ xs) ys = let rest = sum_of-append f xs ys in omega arith
-
-sum_of-one : {A : Type 0} (f : A → ℕ) (x : A) → sum_of f (x ∷ []) ≡ f x
-unfolding sum_of
-sum_of-one f x = omega arith
 
 pub class_ways-here : (w : Web) (fixed : List Rows) (v : List ℤ) (i : ℤ) (front : List Assignment) (a : Assignment) → same_vector (class_of w a) v ≡ true → class_ways w fixed v i (front ++ a ∷ []) ≡ class_ways w fixed v i front + ways_on w fixed i a
 class_ways-here w fixed v i front a e =
@@ -88,11 +77,6 @@ pub coefficient-ways : (w : Web) (fixed : List Rows) (a : Assignment) (i : ℤ) 
 unfolding assignment_coefficient
 coefficient-ways w fixed a i =
     unsigned_abs-mul (assignment_sign w a i) (pos (ways_on w fixed i a)) ∙ (ap (λ s. s * ways_on w fixed i a) (sign-one (i +ℤ edge_twist w a)) ∙ omega arith)
-
-total-size : {A : Type 0} (f : A → ℤ) (g : A → ℕ) → ((x : A) → unsigned_abs (f x) ≡ g x) → (xs : List A) → unsigned_abs (total f xs) ≤ sum_of g xs
-unfolding total sum_of
-total-size f g same [] = omega (arith, ints)
-total-size f g same (x ∷ xs) = let here = same x in let rest = total-size f g same xs in omega (arith, ints)
 
 pub class_total-size : (w : Web) (fixed : List Rows) (v : List ℤ) (i : ℤ) (front : List Assignment) → unsigned_abs (class_total w fixed v i front) ≤ class_ways w fixed v i front
 unfolding class_total class_ways

@@ -2,6 +2,7 @@
 use Rattle.std.proofs.Common.{◌≡◌, ℕ, ◌+◌, ◌*◌, ◌≤◌, ℤ, ◌≤ℤ◌, List, [], ◌∷◌, ◌++◌, Contains, sym, ◌∙◌, ap, arith, le_trans, le_of_eq, add-mul, unsigned_abs}
 use Rattle.std.proofs.Math.Nat.{mul-le-mul}
 use Rattle.std.specs.List.{AllByRecursion}
+use Rattle.tv_lemmas.specs.Sums.{sum_of}
 use Rattle.tv_ring.specs.Operations.{Operations, RingLaws, SizeLaws}
 use Rattle.tv_ring.specs.Sums.{whole_times}
 use Rattle.tv_ring.proofs.Sizes.{size-whole_times}
@@ -9,7 +10,7 @@ use Rattle.tv_laws_series.specs.Terms.{Terms}
 use Rattle.tv_spec_plane.specs.Web.{Web}
 use Rattle.tv_partition.specs.Rows.{IsDiagram}
 use Rattle.tv_spec_boxes.specs.Assignments.{Rows, Assignment, assignments, class_of, assignments_of}
-use Rattle.tv_spec_boxes.specs.Numbers.{sum_of, crowd}
+use Rattle.tv_spec_boxes.specs.Numbers.{crowd}
 use Rattle.tv_spec_series.specs.Families.{Family, coefficient, coefficient_of}
 use Rattle.tv_spec_boxes.proofs.Vectors.{same_vector-same}
 use Rattle.tv_spec_plane.specs.Graded.{IsGraded}

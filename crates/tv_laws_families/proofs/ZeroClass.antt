@@ -4,19 +4,21 @@ use Rattle.std.proofs.Common.{◌≡◌, ℕ, zero, suc, ◌-◌, ◌*◌, refl,
 use Rattle.std.specs.Prelude.{ℤ, pos, negsuc, ◌+ℤ◌, ◌*ℤ◌, ◌<ℤ◌, List, [], ◌∷◌, ◌++◌, map, filter, length, slice_index_or, true}
 use Rattle.std.specs.List.{AllByRecursion}
 use Rattle.std.proofs.lemmas.Int.{ints}
+use Rattle.tv_lemmas.specs.Naturals.{as_natural}
+use Rattle.tv_lemmas.specs.Sums.{total}
 use Rattle.tv_spec_plane.specs.declared.records.CompactEdge.{CompactEdge}
 use Rattle.tv_spec_plane.specs.declared.records.EdgeRef.{EdgeRef}
 use Rattle.tv_spec_plane.specs.declared.records.EdgeRef.TheVariants.{Compact, Outer}
 use Rattle.tv_spec_plane.specs.declared.records.Corner.{Corner}
 use Rattle.tv_spec_plane.specs.Web.{Web, compact, outer, corners, normal_a, edge_class, edge_degree, class_entry, degree_of, sign}
 use Rattle.tv_partition.specs.Rows.{IsDiagram, diagrams, diagrams_within}
-use Rattle.tv_cells.specs.declared.legs.Legs.{Legs}
 use Rattle.tv_cells.specs.Costs.{rows_cost}
 use Rattle.tv_cells.proofs.Overlaps.{no-overlap}
-use Rattle.tv_spec_boxes.specs.Assignments.{Assignment, no_legs, rows_at, legs_of, all_legs, zeros, plus, times, class_on, class_of, costs_on, twist_on, overlaps_of, weight, choices, assignments, same_vector, assignments_of}
-use Rattle.tv_spec_boxes.specs.Configurations.{total, boxes_left}
+use Rattle.tv_spec_boxes.specs.Assignments.{Assignment, no_legs, rows_at, legs_of, all_legs, zeros, plus, times, class_on, class_of, sum_on, cost_by, twist_by, overlaps_of, choices, assignments, same_vector, assignments_of}
+use Rattle.tv_spec_boxes.specs.Configurations.{boxes_left}
+use Rattle.tv_spec_boxes.specs.OneCorner.{empty_legs}
 use Rattle.std.proofs.lemmas.List.FromFn.{length-map-range_with_len}
-use Rattle.tv_spec_boxes.proofs.Sums.{total-one}
+use Rattle.tv_lemmas.proofs.Sums.{total-one}
 use Rattle.tv_laws_counts.specs.Ways.{ways_at, assignment_sign, assignment_coefficient}
 use Rattle.tv_laws_counts.proofs.CornerWays.{ways-start}
 use Rattle.tv_laws_counts.proofs.SignedCounts.{signed_count_is}
@@ -41,13 +43,13 @@ nothing-map f (e ∷ es) = ap (λ a. [] ∷ a) (nothing-map f es)
 
 pub assignments-none : (w : Web) → assignments w 0 ≡ nothing (compact w) ∷ []
 unfolding assignments
-assignments-none w = choices-none (map (λ e. weight (edge_degree w e)) (compact w)) ∙ ap (λ a. a ∷ []) (nothing-map (λ e. weight (edge_degree w e)) (compact w))
+assignments-none w = choices-none (map (λ e. as_natural (edge_degree w e)) (compact w)) ∙ ap (λ a. a ∷ []) (nothing-map (λ e. as_natural (edge_degree w e)) (compact w))
 
-times-none : (v : List ℤ) → times 0 v ≡ zeros (length v)
+pub times-none : (v : List ℤ) → times 0 v ≡ zeros (length v)
 times-none [] = refl
 times-none (x ∷ v) = let e : pos 0 *ℤ x ≡ pos 0 = omega (arith, ints) in rw (e, times-none v) refl
 
-plus-zeros : (n : ℕ) → plus (zeros n) (zeros n) ≡ zeros n
+pub plus-zeros : (n : ℕ) → plus (zeros n) (zeros n) ≡ zeros n
 plus-zeros zero = refl
 plus-zeros (suc n) = ap (λ v. pos 0 ∷ v) (plus-zeros n)
 
@@ -66,19 +68,19 @@ same-zeros : (n : ℕ) → same_vector (zeros n) (zeros n) ≡ true
 same-zeros zero = refl
 same-zeros (suc n) = same-zeros n
 
-assignments_of-zero : (w : Web) → assignments_of w (zeros (length w.points)) ≡ nothing (compact w) ∷ []
+pub assignments_of-zero : (w : Web) → assignments_of w (zeros (length w.points)) ≡ nothing (compact w) ∷ []
 assignments_of-zero w =
-    let low = ap weight (degree-zeros w.heights (length w.points)) in
+    let low = ap as_natural (degree-zeros w.heights (length w.points)) in
     let all = ap (assignments w) low ∙ assignments-none w in
     let fits : same_vector (class_of w (nothing (compact w))) (zeros (length w.points)) ≡ true = ap (λ v. same_vector v (zeros (length w.points))) (class_on-nothing w (compact w)) ∙ same-zeros (length w.points) in
     ap (filter (λ a. same_vector (class_of w a) (zeros (length w.points)))) all ∙ rw fits refl
 
-costs-nothing : (w : Web) (es : List CompactEdge) → costs_on w es (nothing es) ≡ pos 0
+costs-nothing : (w : Web) (es : List CompactEdge) → sum_on (cost_by w) es (nothing es) ≡ pos 0
 unfolding rows_cost
 costs-nothing w [] = refl
 costs-nothing w (e ∷ es) = rw (costs-nothing w es) refl
 
-twist-nothing : (w : Web) (es : List CompactEdge) → twist_on w es (nothing es) ≡ pos 0
+twist-nothing : (w : Web) (es : List CompactEdge) → sum_on (twist_by w) es (nothing es) ≡ pos 0
 twist-nothing w [] = refl
 twist-nothing w (e ∷ es) = let z : normal_a w e *ℤ pos 0 ≡ pos 0 = times_zero (normal_a w e) in rw (z, twist-nothing w es) refl
   where
@@ -94,15 +96,12 @@ rows-nothing : (w : Web) (e : EdgeRef) → rows_at (nothing (compact w)) (no_leg
 rows-nothing w (Compact k) = row-nothing (compact w) k
 rows-nothing w (Outer k) = row-nothing (outer w) k
 
-abbrev bare : Legs
-bare = record { along_x = []; along_y = []; along_z = [] }
-
-legs-nothing : (w : Web) (c : Corner) → legs_of (nothing (compact w)) (no_legs w) c ≡ bare
+legs-nothing : (w : Web) (c : Corner) → legs_of (nothing (compact w)) (no_legs w) c ≡ empty_legs
 legs-nothing w c = rw (rows-nothing w c.along_x, rows-nothing w c.along_y, rows-nothing w c.along_z) refl
 
 pub overlaps-nothing : (w : Web) (cs : List Corner) → overlaps_of (map (legs_of (nothing (compact w)) (no_legs w)) cs) ≡ 0
 overlaps-nothing w [] = refl
-overlaps-nothing w (c ∷ cs) = rw (legs-nothing w c, no-overlap bare refl, overlaps-nothing w cs) refl
+overlaps-nothing w (c ∷ cs) = rw (legs-nothing w c, no-overlap empty_legs refl, overlaps-nothing w cs) refl
 
 left-nothing : (w : Web) (n : ℤ) → boxes_left w (no_legs w) (nothing (compact w)) n ≡ n
 left-nothing w n = rw (costs-nothing w (compact w), overlaps-nothing w (corners w)) (omega (arith, ints))

@@ -1,20 +1,23 @@
 -- The configurations of class zero that the division takes are among those that the crowd of class zero counts.
-use Rattle.std.proofs.Common.{◌≡◌, ℕ, zero, suc, ◌+◌, ◌-◌, ◌≤◌, refl, ap, ◌∙◌, arith}
+use Rattle.std.proofs.Common.{◌≡◌, ℕ, suc, ◌+◌, ◌-◌, ◌≤◌, refl, ap, ◌∙◌, arith}
 use Rattle.std.specs.Prelude.{ℤ, pos, negsuc, ◌-ℤ◌, ◌≤ℤ◌, List, [], ◌∷◌, length, cond, ◌&&◌, int_le, true}
-use Rattle.std.specs.List.{range_with_len}
 use Rattle.std.specs.Int.{int_max}
 use Rattle.std.proofs.lemmas.Int.{ints, clamps}
+use Rattle.tv_lemmas.specs.Naturals.{as_natural}
+use Rattle.tv_lemmas.specs.Sums.{sum_of}
+use Rattle.tv_lemmas.proofs.Sums.{sum_of-≤, sum_of-more}
+use Rattle.tv_lemmas.proofs.Members.{all-any}
 use Rattle.tv_spec_plane.specs.declared.records.CompactEdge.{CompactEdge}
 use Rattle.tv_spec_plane.specs.Web.{Web, compact, corners}
 use Rattle.tv_cells.specs.declared.legs.Legs.{Legs}
 use Rattle.tv_cells.specs.Costs.{rows_cost}
-use Rattle.tv_spec_boxes.specs.Assignments.{no_legs, all_legs, zeros, assignments_of}
+use Rattle.tv_spec_boxes.specs.Assignments.{sum_on, no_legs, all_legs, zeros, assignments_of}
 use Rattle.tv_spec_boxes.specs.Configurations.{fillings}
-use Rattle.tv_spec_boxes.specs.Numbers.{falls_on, low_of, least, lowest, as_natural, box_bound, sum_of, crowd_on, crowd}
+use Rattle.tv_spec_boxes.specs.Numbers.{fall_by, low_of, least, lowest, box_bound, crowd_on, crowd_at, crowd}
 use Rattle.tv_laws_counts.proofs.Bounds.{lowest-none}
 use Rattle.tv_laws_families.proofs.ZeroClass.{nothing, assignments-none, overlaps-nothing, degree-zeros}
 
-falls-nothing : (w : Web) (es : List CompactEdge) → falls_on w es (nothing es) ≡ pos 0
+falls-nothing : (w : Web) (es : List CompactEdge) → sum_on (fall_by w) es (nothing es) ≡ pos 0
 unfolding rows_cost
 falls-nothing w [] = refl
 falls-nothing w (e ∷ es) = rw (falls-nothing w es) refl
@@ -25,23 +28,13 @@ lowest-zero w =
     ap (least (low_of w (no_legs w))) (assignments-none w)
     ∙ rw (falls-nothing w (compact w), overlaps-nothing w (corners w)) refl
 
-sum_of-more : (f : ℕ → ℕ) (k m d : ℕ) → sum_of f (range_with_len k m) ≤ sum_of f (range_with_len k (m + d))
-unfolding sum_of
-sum_of-more f k zero d = omega arith
-sum_of-more f k (suc m) d = let e : suc m + d ≡ suc (m + d) = omega arith in let rest = sum_of-more f (k + 1) m d in rw e (omega arith)
-
 crowd_on-≤ : (legs : List Legs) (m n : ℕ) → m ≤ n → crowd_on legs m ≤ crowd_on legs n
 crowd_on-≤ legs m n h =
     let e : suc m + (n - m) ≡ suc n = omega arith in
     let more = sum_of-more (λ i. length (fillings legs i i)) 0 (suc m) (n - m) in
     rw e at more
 
-sum_of-≤ : {A : Type 0} (f g : A → ℕ) → ((x : A) → f x ≤ g x) → (xs : List A) → sum_of f xs ≤ sum_of g xs
-unfolding sum_of
-sum_of-≤ f g h [] = omega arith
-sum_of-≤ f g h (x ∷ xs) = let first = h x in let rest = sum_of-≤ f g h xs in omega arith
-
-crowd-zero : (w : Web) (d : ℕ) (n : ℤ) → crowd w (no_legs w) d n (zeros (length w.points)) ≡ sum_of (λ a. crowd_on (all_legs w a (no_legs w)) (box_bound n (lowest w (no_legs w) d))) (assignments_of w (zeros (length w.points)))
+crowd-zero : (w : Web) (d : ℕ) (n : ℤ) → crowd w (no_legs w) d n (zeros (length w.points)) ≡ sum_of (crowd_at w (no_legs w) d n) (assignments_of w (zeros (length w.points)))
 unfolding crowd
 crowd-zero w d n = rw (degree-zeros w.heights (length w.points)) (passes (int_le (pos 0) (pos d)) _ (is_within d))
   where
@@ -63,4 +56,4 @@ pub zero_crowd : (w : Web) (d : ℕ) (n m : ℤ) → m ≤ℤ int_max (pos 0) (n
 zero_crowd w d n m h =
     let less = bound_less n m (lowest w (no_legs w) d) (lowest-none w (no_legs w) d) h in
     let fewer : box_bound m (lowest w (no_legs w) 0) ≤ box_bound n (lowest w (no_legs w) d) = rw (lowest-zero w) less in
-    rw (crowd-zero w 0 m, crowd-zero w d n) (sum_of-≤ (λ a. crowd_on (all_legs w a (no_legs w)) (box_bound m (lowest w (no_legs w) 0))) (λ a. crowd_on (all_legs w a (no_legs w)) (box_bound n (lowest w (no_legs w) d))) (λ a. crowd_on-≤ (all_legs w a (no_legs w)) (box_bound m (lowest w (no_legs w) 0)) (box_bound n (lowest w (no_legs w) d)) fewer) (assignments_of w (zeros (length w.points))))
+    rw (crowd-zero w 0 m, crowd-zero w d n) (sum_of-≤ (crowd_at w (no_legs w) 0 m) (crowd_at w (no_legs w) d n) (assignments_of w (zeros (length w.points))) (all-any (λ a. crowd_at w (no_legs w) 0 m a ≤ crowd_at w (no_legs w) d n a) (λ a. crowd_on-≤ (all_legs w a (no_legs w)) (box_bound m (lowest w (no_legs w) 0)) (box_bound n (lowest w (no_legs w) d)) fewer) (assignments_of w (zeros (length w.points)))))

@@ -9,13 +9,13 @@
 use Rattle.std.specs.Prelude.{◌≡◌, Contains, ℕ, ℤ, pos, ◌+ℤ◌, ◌≤ℤ◌, List, filter}
 use Rattle.std.specs.Int.{int_min}
 use Rattle.std.specs.List.{AllByRecursion}
+use Rattle.tv_lemmas.specs.Sums.{total}
 use Rattle.tv_ring.specs.Operations.{Operations}
 use Rattle.tv_ring.specs.Sums.{whole_times}
 use Rattle.tv_laws_series.specs.Terms.{Terms}
 use Rattle.tv_spec_plane.specs.Web.{Web}
 use Rattle.tv_spec_boxes.specs.Assignments.{Rows, Assignment, class_of, same_vector}
 use Rattle.tv_spec_boxes.specs.Classes.{IsClass}
-use Rattle.tv_spec_boxes.specs.Configurations.{total}
 use Rattle.tv_spec_boxes.specs.Numbers.{lowest}
 use Rattle.tv_spec_series.specs.Families.{Row, Family, classes, coefficient, coefficient_of}
 use Rattle.tv_laws_counts.specs.Ways.{start_of, assignment_coefficient}

@@ -1,7 +1,7 @@
 //! Laws of the full series: each function does nothing, and its contract is a law.
 
 ghost use Rattle.tv_laws_families.specs.Laws.{FullIsOnly};
-ghost use Rattle.tv_laws_families.specs.Laws.{OnlyQuotientThrough, BeginsWithOne, NothingBelow, ReducedIsOnly};
+ghost use Rattle.tv_laws_families.specs.Laws.{OnlyQuotientThrough, QuotientFromZero, BeginsWithOne, NothingBelow, ReducedIsOnly, ReducedClasses};
 
 use tv_ring::Ring;
 
@@ -10,9 +10,15 @@ pub fn full_is_only<C: Ring>()
     ensures law { FullIsOnly C.ring }
 {}
 
-/// Of two quotients, through n, by one series that is 1 at exponent 0, each is the other through n.
+/// Of two quotients, through n, of one series by another, each is the other through n.
 pub fn only_quotient()
     ensures { OnlyQuotientThrough }
+{}
+
+/// By a series that is 1 at exponent 0, and 0 below, the quotients through n are the series whose product with it is the
+/// dividend at every exponent through n.
+pub fn quotient_from_zero()
+    ensures { QuotientFromZero }
 {}
 
 /// The series of class zero of a graded web, with all open edges empty, is 1 at exponent 0 and 0 below.
@@ -26,8 +32,15 @@ pub fn nothing_below_the_lowest()
     ensures { NothingBelow }
 {}
 
-/// Two reduced families of one graded web, with all open edges empty, have the same classes in the same order, and the same
-/// coefficients through their order.
+/// Two reduced families of one web, with the same diagrams on the open edges, have the same classes in the same order, and the
+/// same coefficients through their order.
 pub fn reduced_is_only<C: Ring>()
     ensures law { ReducedIsOnly C.ring }
+{}
+
+/// A reduced family of a graded web, with all open edges empty, has class zero, and its series is 1; every other class has a
+/// degree of at least 1; and where each entry of the class of each compact edge is at most b in absolute value, each entry of a
+/// class is at most b times its degree.
+pub fn reduced_classes<C: Ring>()
+    ensures law { ReducedClasses C.ring }
 {}

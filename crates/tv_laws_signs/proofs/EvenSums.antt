@@ -8,7 +8,7 @@ use Rattle.tv_spec_plane.specs.Plane.{Point}
 use Rattle.tv_spec_plane.specs.Web.{Web, compact, even_sum, is_even_point, edge_class, normal_a}
 use Rattle.tv_lemmas.proofs.Integers.{mul-swap}
 use Rattle.tv_partition.specs.Rows.{size}
-use Rattle.tv_spec_boxes.specs.Assignments.{Assignment, zeros, plus, times, class_on, twist_on, class_of, edge_twist}
+use Rattle.tv_spec_boxes.specs.Assignments.{Assignment, zeros, plus, times, class_on, sum_on, twist_by, class_of, edge_twist}
 use Rattle.tv_laws_edges.specs.Rule.{HasRule, HasEdgeRule}
 use Rattle.tv_lemmas.proofs.Integers.{mul-add}
 use Rattle.tv_laws_edges.proofs.Parity.{is_even, eqv, is_even-add, is_even-mul, same_parity}
@@ -50,12 +50,12 @@ step_even s e t m k same rest =
     let right = is_even-add (m *ℤ s) k ∙ ap (λ v. eqv v (is_even k)) (ap is_even (mul-swap m s) ∙ is_even-mul s m) in
     left ∙ sym right
 
-class_on-even : (w : Web) (es : List CompactEdge) (a : Assignment) → AllByRecursion (HasRule w) es → is_even (even_sum w.points (class_on w es a)) ≡ is_even (twist_on w es a)
+class_on-even : (w : Web) (es : List CompactEdge) (a : Assignment) → AllByRecursion (HasRule w) es → is_even (even_sum w.points (class_on w es a)) ≡ is_even (sum_on (twist_by w) es a)
 class_on-even w [] a rules = ap is_even (even_sum-zeros w.points _)
 class_on-even w (e ∷ es) [] rules = ap is_even (even_sum-zeros w.points _)
 class_on-even w (e ∷ es) (d ∷ a) rules =
     let split = even_sum-plus w.points (times (size d) (edge_class w e)) (class_on w es a) ∙ ap (λ (s : ℤ). s +ℤ even_sum w.points (class_on w es a)) (even_sum-times w.points (size d) (edge_class w e)) in
-    ap is_even split ∙ step_even (pos (size d)) (even_sum w.points (edge_class w e)) (even_sum w.points (class_on w es a)) (normal_a w e) (twist_on w es a) (class-even w e rules.0) (class_on-even w es a rules.1)
+    ap is_even split ∙ step_even (pos (size d)) (even_sum w.points (edge_class w e)) (even_sum w.points (class_on w es a)) (normal_a w e) (sum_on (twist_by w) es a) (class-even w e rules.0) (class_on-even w es a rules.1)
 
 pub class_of-even : (w : Web) (a : Assignment) → HasEdgeRule w → is_even (even_sum w.points (class_of w a)) ≡ is_even (edge_twist w a)
 class_of-even w a rules = class_on-even w (compact w) a rules

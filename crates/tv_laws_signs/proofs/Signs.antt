@@ -5,7 +5,7 @@ use Rattle.tv_lemmas.proofs.Members.{all-onto}
 use Rattle.tv_spec_plane.specs.Web.{Web, even_sum, class_sign}
 use Rattle.tv_spec_boxes.specs.Assignments.{Rows, class_of, edge_twist}
 use Rattle.tv_spec_boxes.specs.Configurations.{Configuration, chi_of, configuration_sign, configurations, signed_count}
-use Rattle.tv_spec_boxes.proofs.Sums.{total-alike}
+use Rattle.tv_lemmas.proofs.Sums.{total-alike}
 use Rattle.tv_laws_edges.specs.Rule.{HasEdgeRule}
 use Rattle.tv_laws_edges.proofs.Parity.{is_even, eqv, is_even-add}
 use Rattle.tv_laws_signs.specs.Laws.{ConfigurationSign, OneSign, CountedSign}

@@ -112,13 +112,13 @@ not_flat : (z : ℤ) → unsigned_abs z ≡ 1 → z ≢ pos 0
 not_flat z u e = let m : unsigned_abs z ≡ 0 = ap unsigned_abs e in omega (arith, u, m)
 
 module _ (ps : List Point) (t : Triple) (u : IsUnit ps t) where
-  a_not_b : t.a ≢ t.b
+  pub a_not_b : t.a ≢ t.b
   a_not_b e = not_flat (turn_of ps t) u (subst (λ k. turn (at ps t.a) (at ps k) (at ps t.c) ≡ pos 0) e (turn-first (at ps t.a) (at ps t.c)))
 
-  b_not_c : t.b ≢ t.c
+  pub b_not_c : t.b ≢ t.c
   b_not_c e = not_flat (turn_of ps t) u (subst (λ k. turn (at ps t.a) (at ps t.b) (at ps k) ≡ pos 0) e (turn-second (at ps t.a) (at ps t.b)))
 
-  c_not_a : t.c ≢ t.a
+  pub c_not_a : t.c ≢ t.a
   c_not_a e = not_flat (turn_of ps t) u (subst (λ k. turn (at ps t.a) (at ps t.b) (at ps k) ≡ pos 0) (sym e) (turn-last (at ps t.a) (at ps t.b)))
 
 pub beside_edge : (ps : List Point) (t : Triple) (a b : ℕ) → IsListed ps t → IsUnit ps t → a ≢ b → has t a ≡ true → has t b ≡ true → IsBeside ps (turned_of ps t) a b (opposite t a b)

@@ -3,3 +3,5 @@ pub mod Shared
 pub mod Owners
 pub mod Rules
 pub mod Turned
+pub mod Places
+pub mod Named

@@ -22,7 +22,7 @@ abbrev pub Rising : (ℕ → Bool) → ℕ → ℕ → List ℕ → Type 0
 Rising test low top [] = ⊤
 Rising test low top (k ∷ ks) = (low ≤ k) × (k < top) × (test k ≡ true) × Rising test (k + 1) top ks
 
-rising-lower : (test : ℕ → Bool) (low top : ℕ) (ks : List ℕ) → Rising test (suc low) top ks → Rising test low top ks
+rising-lower : (test : ℕ → Bool) (low top : ℕ) (ks : List ℕ) → Rising test (low + 1) top ks → Rising test low top ks
 rising-lower test low top [] h = tt
 rising-lower test low top (k ∷ ks) h = (omega (arith, h.0), h.1, h.2, h.3)
 

@@ -13,15 +13,13 @@ use Rattle.tv_lattice.specs.Limits.{HasCoordinates}
 use Rattle.tv_triangulation.specs.Turned.{turned_of, turned, IsUnit}
 use Rattle.tv_lemmas.proofs.Members.{all-at}
 use Rattle.tv_laws_tiling.proofs.Turns.{turn-back}
+use Rattle.tv_triangulation.proofs.Tilings.{no_triple}
 use Rattle.tv_triangulation.specs.Triangulated.{IsTiled}
 use Rattle.tv_laws_edges.specs.Rule.{HasSides, HasRule}
 use Rattle.tv_laws_tiled_edges.specs.Laws.{TilingHasEdgeRule}
 use Rattle.tv_laws_tiled_edges.proofs.Corners.{IsBeside, beside_edge}
 use Rattle.tv_laws_tiled_edges.proofs.Shared.{no_shared_side}
 use Rattle.tv_laws_tiled_edges.proofs.Owners.{Rising, rising_filter, Gives, each_pair}
-
-abbrev no_triple : Triple
-no_triple = record { a = 0; b = 0; c = 0 }
 
 -- triangles with no side in common lie on the two sides of an edge
 two_sides : (ps : List Point) (t u : Triple) (a b c d : ℕ) → ((s : ℕ × ℕ) → Among s (sides t) → Among s (sides u) → ⊥) → IsBeside ps t a b c → IsBeside ps u a b d → HasSides (at ps a) (at ps b) (at ps c) (at ps d)
@@ -45,15 +43,15 @@ turned-at ps [] i l = absurd (omega arith)
 turned-at ps (t ∷ ts) zero l = refl
 turned-at ps (t ∷ ts) (suc i) l = turned-at ps ts i (omega arith)
 
-abbrev owns : Web → ℕ → ℕ → ℕ → Bool
+abbrev pub owns : Web → ℕ → ℕ → ℕ → Bool
 owns w a b t = has (triangle_at w.triangles t) a && has (triangle_at w.triangles t) b
 
 module _ (w : Web) (coordinates : AllByRecursion HasCoordinates w.points) (tiled : IsTiled w.points w.triangles) where
-  owner_beside : (a b t : ℕ) → a ≢ b → t < length w.triangles → owns w a b t ≡ true → IsBeside w.points (turned_of w.points (triangle_at w.triangles t)) a b (opposite (triangle_at w.triangles t) a b)
+  pub owner_beside : (a b t : ℕ) → a ≢ b → t < length w.triangles → owns w a b t ≡ true → IsBeside w.points (turned_of w.points (triangle_at w.triangles t)) a b (opposite (triangle_at w.triangles t) a b)
   owner_beside a b t apart l h = let both = and_parts (has (triangle_at w.triangles t) a) (has (triangle_at w.triangles t) b) h in
       beside_edge w.points (triangle_at w.triangles t) a b (all-at (IsListed w.points) w.triangles no_triple tiled.listed t l) (all-at (IsUnit w.points) w.triangles no_triple tiled.unit t l) apart both.0 both.1
 
-  sides_apart : (t u : ℕ) → t < u → u < length w.triangles → (s : ℕ × ℕ) → Among s (sides (turned_of w.points (triangle_at w.triangles t))) → Among s (sides (turned_of w.points (triangle_at w.triangles u))) → ⊥
+  pub sides_apart : (t u : ℕ) → t < u → u < length w.triangles → (s : ℕ × ℕ) → Among s (sides (turned_of w.points (triangle_at w.triangles t))) → Among s (sides (turned_of w.points (triangle_at w.triangles u))) → ⊥
   sides_apart t u l m s p q =
       let first = rw (turned-at w.points w.triangles t (omega arith)) at (no_shared_side w.points w.triangles coordinates tiled s t u l m) in
       let second = rw (turned-at w.points w.triangles u m) at first in
@@ -64,7 +62,7 @@ module _ (w : Web) (coordinates : AllByRecursion HasCoordinates w.points) (tiled
   rule_by a b apart (t ∷ []) h = tt
   rule_by a b apart (t ∷ u ∷ []) h =
       let c = opposite (triangle_at w.triangles t) a b in let d = opposite (triangle_at w.triangles u) a b in
-      edge_by w (turned_of w.points (triangle_at w.triangles t)) (turned_of w.points (triangle_at w.triangles u)) a b c d t u (nat_lt c d) (sides_apart t u h.3.0 h.3.1) (owner_beside a b t apart h.1 h.2) (owner_beside a b u apart h.3.1 h.3.2)
+      edge_by w (turned_of w.points (triangle_at w.triangles t)) (turned_of w.points (triangle_at w.triangles u)) a b c d t u (nat_lt c d) (sides_apart t u (omega (arith, h.3.0)) h.3.1) (owner_beside a b t apart h.1 h.2) (owner_beside a b u apart h.3.1 h.3.2)
   rule_by a b apart (t ∷ u ∷ v ∷ ts) h = tt
 
   rules : AllByRecursion (HasRule w) (compact w)

@@ -5,7 +5,7 @@ use Rattle.tv_spec_plane.specs.declared.records.Triple.{Triple}
 use Rattle.tv_spec_plane.specs.Plane.{Point}
 use Rattle.tv_spec_plane.specs.Tiling.{Tiles}
 use Rattle.tv_laws_tiling.specs.Edges.{AreTurned}
-use Rattle.tv_hull.specs.Points.{AreDistinct, IsFlat}
+use Rattle.tv_laws_tiling.specs.Points.{AreDistinct, SpansPlane}
 use Rattle.tv_laws_tiling.proofs.Exchanges.{exchanged_triangles_tile}
 use Rattle.tv_triangulation.specs.Checks.{AreListed, AreUnit}
 use Rattle.tv_triangulation.specs.Turned.{turned}
@@ -21,7 +21,7 @@ turned-unit : (ps : List Point) (ts : List Triple) → AreTurned ps ts → AreUn
 turned-unit ps [] turned = tt
 turned-unit ps (t ∷ ts) turned = (ap unsigned_abs turned.0.turned, turned-unit ps ts turned.1)
 
-pub turned-tiled : (ps : List Point) (ts : List Triple) → AreDistinct ps → (IsFlat ps → ⊥) → AreTurned ps ts → Tiles ps ts → IsTiled ps ts
+pub turned-tiled : (ps : List Point) (ts : List Triple) → AreDistinct ps → SpansPlane ps → AreTurned ps ts → Tiles ps ts → IsTiled ps ts
 turned-tiled ps ts distinct spread turns tiles = record {
   distinct = distinct;
   spread = spread;

@@ -38,7 +38,7 @@ single_hull = record {
 }
 
 single_small : AreSmall single
-single_small = (record { x = omega arith; y = omega arith }, tt)
+single_small = ((omega arith, omega arith), tt)
 
 single_turned : AreTurned single []
 single_turned = tt

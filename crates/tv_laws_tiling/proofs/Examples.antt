@@ -120,11 +120,11 @@ hull_is_hull = record {
 }
 
 points_are_small : AreSmall points
-points_are_small = (record { x = omega arith; y = omega arith }, (record { x = omega arith; y = omega arith }, (record { x = omega arith; y = omega arith }, tt)))
+points_are_small = ((omega arith, omega arith), ((omega arith, omega arith), ((omega arith, omega arith), tt)))
 
 points_are_spread : SpansPlane points
 unfolding turn
-points_are_spread = record { a = 0; b = 1; c = 2; a_listed = omega arith; b_listed = omega arith; c_listed = omega arith; turned = λ e. omega (arith, ints) }
+points_are_spread = λ flat. let e = flat 0 1 2 (omega arith) (omega arith) (omega arith) in omega (arith, ints)
 
 triangles_are_turned : AreTurned points triangles
 unfolding turn

@@ -7,18 +7,19 @@ use Rattle.std.proofs.Common.{ap, sym, ◌∙◌, arith, inl, inr}
 use Rattle.std.proofs.lemmas.Int.{ints}
 use Rattle.tv_spec_plane.specs.Plane.{Point, at, turn}
 use Rattle.tv_spec_plane.specs.Tiling.{Rational, side}
+use Rattle.tv_spec_plane.specs.Limits.{HasCoordinates}
 use Rattle.tv_laws_tiling.specs.Hull.{IsLess}
-use Rattle.tv_laws_tiling.specs.Points.{IsSmall, AreSmall}
+use Rattle.tv_laws_tiling.specs.Points.{AreSmall}
 use Rattle.tv_lemmas.proofs.Integers.{mul-sub, mul-swap, diff, diff_of, diff-same, diffs, diff-pos}
 use Rattle.tv_lemmas.proofs.Signs.{sign, mul-pos-pos, mul-positive, mul-pos-neg, mul-negative, factor-zero}
 use Rattle.tv_lemmas.proofs.Members.{all-everywhere}
 use Rattle.tv_laws_tiling.proofs.Turns.{side-sum, side-frame, side-spread, turn-flat}
 use Rattle.tv_laws_tiling.proofs.Crossings.{IsWeighted}
 
-pub at-small : (ps : List Point) → AreSmall ps → (i : ℕ) → IsSmall (at ps i)
-at-small ps small i = all-everywhere IsSmall ps (record { x = pos 0; y = pos 0 }) (record { x = omega arith; y = omega arith }) small i
+pub at-small : (ps : List Point) → AreSmall ps → (i : ℕ) → HasCoordinates (at ps i)
+at-small ps small i = all-everywhere HasCoordinates ps (record { x = pos 0; y = pos 0 }) (omega arith, omega arith) small i
 
-abbrev base : Point
+abbrev pub base : Point
 base = record { x = pos 0; y = pos 0 }
 
 abbrev tilt : Point
@@ -31,21 +32,21 @@ height-is : (a : Point) → height a ≡ a.y +ℤ (pos 201 *ℤ a.x)
 unfolding height turn
 height-is a = omega (arith, ints)
 
-less_by : (p q : Point) (s t : ℤ) → s ≡ p.y +ℤ (pos 201 *ℤ p.x) → t ≡ q.y +ℤ (pos 201 *ℤ q.x) → IsSmall p → IsSmall q → IsLess p q → s <ℤ t
-less_by p q s t e f hp hq (inl h) = omega (arith, ints, hp.x, hp.y, hq.x, hq.y)
+less_by : (p q : Point) (s t : ℤ) → s ≡ p.y +ℤ (pos 201 *ℤ p.x) → t ≡ q.y +ℤ (pos 201 *ℤ q.x) → HasCoordinates p → HasCoordinates q → IsLess p q → s <ℤ t
+less_by p q s t e f hp hq (inl h) = omega (arith, ints, hp.0, hp.1, hq.0, hq.1)
 less_by p q s t e f hp hq (inr h) = omega (arith, ints, h.0, h.1)
 
-pub less-height : (p q : Point) → IsSmall p → IsSmall q → IsLess p q → height p <ℤ height q
+pub less-height : (p q : Point) → HasCoordinates p → HasCoordinates q → IsLess p q → height p <ℤ height q
 less-height p q hp hq h = less_by p q (height p) (height q) (height-is p) (height-is q) hp hq h
 
-by_less : (p q : Point) (s t : ℤ) → s ≡ p.y +ℤ (pos 201 *ℤ p.x) → t ≡ q.y +ℤ (pos 201 *ℤ q.x) → IsSmall p → IsSmall q → s <ℤ t → IsLess p q
+by_less : (p q : Point) (s t : ℤ) → s ≡ p.y +ℤ (pos 201 *ℤ p.x) → t ≡ q.y +ℤ (pos 201 *ℤ q.x) → HasCoordinates p → HasCoordinates q → s <ℤ t → IsLess p q
 by_less p q s t e f hp hq h = elim (sign (q.x -ℤ p.x)) [
-  | inl less ↦ absurd (omega (arith, ints, hp.x, hp.y, hq.x, hq.y))
+  | inl less ↦ absurd (omega (arith, ints, hp.0, hp.1, hq.0, hq.1))
   | inr (inl same) ↦ inr (omega (arith, ints), omega (arith, ints))
   | inr (inr more) ↦ inl (omega (arith, ints))
 ]
 
-pub height-less : (p q : Point) → IsSmall p → IsSmall q → height p <ℤ height q → IsLess p q
+pub height-less : (p q : Point) → HasCoordinates p → HasCoordinates q → height p <ℤ height q → IsLess p q
 height-less p q hp hq h = by_less p q (height p) (height q) (height-is p) (height-is q) hp hq h
 
 pub not-less : (p q : Point) → (p.x <ℤ q.x → ⊥) → (p.x ≡ q.x → p.y <ℤ q.y → ⊥) → IsLess p q → ⊥

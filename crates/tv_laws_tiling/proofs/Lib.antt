@@ -4,6 +4,7 @@ pub mod Crossings
 pub mod Lists
 pub mod Heights
 pub mod Runs
+pub mod Spread
 pub mod Sides
 pub mod Insides
 pub mod Matched

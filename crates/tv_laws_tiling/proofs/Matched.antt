@@ -9,12 +9,14 @@ use Rattle.tv_laws_tiling.specs.Members.{Among}
 use Rattle.tv_laws_tiling.specs.Hull.{IsHull, IsRound, IsLess}
 use Rattle.tv_laws_tiling.specs.Edges.{sides, edges, back, IsTurned, AreTurned}
 use Rattle.tv_lemmas.proofs.Signs.{same-by_order, sign, positive, positive-true, positive-false, true-positive}
-use Rattle.tv_lemmas.proofs.Sums.{sum_of, sum_of-append, sum_of-flat_map, sum_of-all, bit, bits-one}
+use Rattle.tv_lemmas.specs.Sums.{total}
+use Rattle.tv_lemmas.proofs.Sums.{total-append, total-flat_map, total-all, bit, bits-one}
 use Rattle.tv_laws_tiling.specs.Points.{AreSmall, SpansPlane}
 use Rattle.tv_laws_tiling.specs.Laws.{MatchedTrianglesTile}
 use Rattle.tv_laws_tiling.proofs.Members.{append-among_left, append-among_right}
-use Rattle.tv_laws_tiling.proofs.Cancels.{sum_of-cancels}
+use Rattle.tv_laws_tiling.proofs.Cancels.{total-cancels}
 use Rattle.tv_laws_tiling.proofs.Turns.{side-back}
+use Rattle.tv_laws_tiling.proofs.Spread.{spans-three}
 use Rattle.tv_laws_tiling.proofs.Crossings.{number, number-back, number-climbs, number-descends, weighted-adds}
 use Rattle.tv_laws_tiling.proofs.Heights.{at-small, height, height-less, height-flat, lift, lift-less, lift-least, lift-greatest, lift-weighted}
 use Rattle.tv_laws_tiling.proofs.Runs.{Climbs, Descends, climb-run, descent-run, run-first, run-last, run-telescopes}
@@ -49,7 +51,7 @@ cross-third ps p s c generic third = ap (λ (r : Bool). number (over ps p s.0) (
 three-same : (a b c x y z r : ℤ) → a ≡ x → b ≡ y → c ≡ z → x +ℤ (y +ℤ z) ≡ r → a +ℤ (b +ℤ (c +ℤ pos 0)) ≡ r
 three-same a b c x y z r e f g h = omega (arith, ints)
 
-triangle-cross : (ps : List Point) (p : Rational) → IsGeneric ps p → (t : Triple) → IsTurned ps t → sum_of (cross ps p) (sides t) ≡ bit (inside ps p t)
+triangle-cross : (ps : List Point) (p : Rational) → IsGeneric ps p → (t : Triple) → IsTurned ps t → total (cross ps p) (sides t) ≡ bit (inside ps p t)
 unfolding inside
 triangle-cross ps p generic t h =
     let ab = side-third ps t (t.a, t.b) h (inl refl) in
@@ -62,8 +64,8 @@ triangle-cross ps p generic t h =
     }) in
     three-same _ _ _ _ _ _ _ (cross-third ps p (t.a, t.b) ab.0 generic ab.1) (cross-third ps p (t.b, t.c) bc.0 generic bc.1) (cross-third ps p (t.c, t.a) ca.0 generic ca.1) (weighted-adds _ _ _ _ _ _ weights)
 
-edges-cross : (ps : List Point) (p : Rational) → IsGeneric ps p → (ts : List Triple) → AreTurned ps ts → sum_of (cross ps p) (edges ts) ≡ sum_of (λ t. bit (inside ps p t)) ts
-edges-cross ps p generic ts turned = sum_of-flat_map (cross ps p) sides ts ∙ sum_of-all (IsTurned ps) (λ t. sum_of (cross ps p) (sides t)) (λ t. bit (inside ps p t)) (triangle-cross ps p generic) ts turned
+edges-cross : (ps : List Point) (p : Rational) → IsGeneric ps p → (ts : List Triple) → AreTurned ps ts → total (cross ps p) (edges ts) ≡ total (λ t. bit (inside ps p t)) ts
+edges-cross ps p generic ts turned = total-flat_map (cross ps p) sides ts ∙ total-all (IsTurned ps) (λ t. total (cross ps p) (sides t)) (λ t. bit (inside ps p t)) (triangle-cross ps p generic) ts turned
 
 -- ---- the hull
 hull-left : (ps : List Point) (hull : List Segment) (p : Rational) → IsHull ps hull → IsInHull ps p → (s : Segment) → Among s hull → pos 0 <ℤ side (at ps s.0) (at ps s.1) p
@@ -83,7 +85,8 @@ over-rises ps p i j positive_k less e =
 
 -- the ends of the climb are apart, since the points are not all on one level
 ends-apart : (ps : List Point) (hull : List Segment) → AreSmall ps → SpansPlane ps → (r : IsRound ps hull) → r.least ≡ r.greatest → ⊥
-ends-apart ps hull small spread r same =
+ends-apart ps hull small spans r same =
+    let spread = spans-three ps spans in
     let level : (k : ℕ) → k < length ps → height (at ps k) ≡ height (at ps r.least) = λ k h. same-by_order (height (at ps k)) (height (at ps r.least))
     (λ less. r.first.least k h (height-less _ _ (at-small ps small k) (at-small ps small r.least) less))
     (λ less. r.last.greatest k h (subst (λ (i : ℕ). IsLess (at ps i) (at ps k)) same (height-less _ _ (at-small ps small r.least) (at-small ps small k) less))) in
@@ -124,22 +127,22 @@ module _ (ps : List Point) (hull : List Segment) (p : Rational) (small : AreSmal
       positive-true (lift p (at ps is_hull.round.greatest)) (lift-greatest (at ps is_hull.round.greatest) (at ps home.0) (at ps out.0) p
       ((is_hull.each _ _ b).left out.0 (is_hull.each _ _ c).first_listed) (hull-left ps hull p is_hull within _ c) (hull-left ps hull p is_hull within _ b) home.2 out.2)
 
-  hull-cross : (is_hull.round.least ≡ is_hull.round.greatest → ⊥) → sum_of (cross ps p) hull ≡ pos 1
+  hull-cross : (is_hull.round.least ≡ is_hull.round.greatest → ⊥) → total (cross ps p) hull ≡ pos 1
   hull-cross apart =
       let r = is_hull.round in
       let climb = run-telescopes (Climbs ps) (cross ps p) (λ i. bit (over ps p i)) r.least r.up r.greatest climb-cross (climb-run ps small r.least r.up r.greatest r.climbs) in
       let descent = run-telescopes (Descends ps) (cross ps p) (λ i. pos 0) r.greatest r.back r.least descent-cross (descent-run ps small r.greatest r.back r.least r.descends) in
       let low : bit (over ps p r.least) ≡ pos 0 = ap bit (over-least apart) in
       let high : bit (over ps p r.greatest) ≡ pos 1 = ap bit (over-greatest apart) in
-      let split : sum_of (cross ps p) hull ≡ sum_of (cross ps p) r.up +ℤ sum_of (cross ps p) r.back = ap (sum_of (cross ps p)) r.whole ∙ sum_of-append (cross ps p) r.up r.back in
+      let split : total (cross ps p) hull ≡ total (cross ps p) r.up +ℤ total (cross ps p) r.back = ap (total (cross ps p)) r.whole ∙ total-append (cross ps p) r.up r.back in
       omega (arith, ints)
 
 -- ---- the theorem
 pub matched_triangles_tile : MatchedTrianglesTile
 matched_triangles_tile ps ts hull small spread is_hull turned matched = record {
   covered = λ p generic within.
-      let cancel : sum_of (cross ps p) (edges ts) ≡ sum_of (cross ps p) hull = sum_of-cancels back (λ s. refl) (cross ps p) (cross-back ps p) (edges ts) hull matched.once is_hull.once matched.matched matched.covered (λ s m. hull-outer ps ts s turned (is_hull.each s.0 s.1 m)) in
-      let one : sum_of (λ t. bit (inside ps p t)) ts ≡ pos 1 = sym (edges-cross ps p generic ts turned) ∙ (cancel ∙ hull-cross ps hull p small is_hull generic within (ends-apart ps hull small spread is_hull.round)) in
+      let cancel : total (cross ps p) (edges ts) ≡ total (cross ps p) hull = total-cancels back (λ s. refl) (cross ps p) (cross-back ps p) (edges ts) hull matched.once is_hull.once matched.matched matched.covered (λ s m. hull-outer ps ts s turned (is_hull.each s.0 s.1 m)) in
+      let one : total (λ t. bit (inside ps p t)) ts ≡ pos 1 = sym (edges-cross ps p generic ts turned) ∙ (cancel ∙ hull-cross ps hull p small is_hull generic within (ends-apart ps hull small spread is_hull.round)) in
       let place = bits-one (inside ps p) (record { a = 0; b = 0; c = 0 }) ts one in (
         place.0,
         record {

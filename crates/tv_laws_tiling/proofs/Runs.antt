@@ -5,7 +5,7 @@ use Rattle.std.proofs.lemmas.Int.{ints}
 use Rattle.tv_spec_plane.specs.Plane.{Point, at, Segment}
 use Rattle.tv_laws_tiling.specs.Members.{Among}
 use Rattle.tv_laws_tiling.specs.Hull.{IsClimb, IsDescent}
-use Rattle.tv_lemmas.proofs.Sums.{sum_of}
+use Rattle.tv_lemmas.specs.Sums.{total}
 use Rattle.tv_laws_tiling.specs.Points.{AreSmall}
 use Rattle.tv_laws_tiling.proofs.Heights.{at-small, height, less-height}
 
@@ -46,7 +46,7 @@ run-last P a [] b h apart = absurd (apart h)
 run-last P a (s ∷ ss) b h apart = run-last_at P s ss b h.1 h.2
 
 -- differences telescope
-pub run-telescopes : (P : Segment → Type 0) (f : Segment → ℤ) (g : ℕ → ℤ) (a : ℕ) (ss : List Segment) (b : ℕ) → ((s : Segment) → Among s ss → P s → f s ≡ g s.1 -ℤ g s.0) → IsRun P a ss b → sum_of f ss ≡ g b -ℤ g a
+pub run-telescopes : (P : Segment → Type 0) (f : Segment → ℤ) (g : ℕ → ℤ) (a : ℕ) (ss : List Segment) (b : ℕ) → ((s : Segment) → Among s ss → P s → f s ≡ g s.1 -ℤ g s.0) → IsRun P a ss b → total f ss ≡ g b -ℤ g a
 run-telescopes P f g a [] b steps h = let e : g a ≡ g b = ap g h in omega (arith, ints)
 run-telescopes P f g a (s ∷ ss) b steps h =
     let e : g s.0 ≡ g a = ap g h.0 in

@@ -20,7 +20,7 @@ turned-at ps ts turned i h = all-at (IsTurned ps) ts _ turned i h
 pub turned-spread : (ps : List Point) (ts : List Triple) → 0 < length ts → AreTurned ps ts → SpansPlane ps
 turned-spread ps ts some turned =
     let t = turned-at ps ts turned 0 some in
-    record { a = (triangle_at ts 0).a; b = (triangle_at ts 0).b; c = (triangle_at ts 0).c; a_listed = t.listed.a; b_listed = t.listed.b; c_listed = t.listed.c; turned = λ e. omega (arith, ints, t.turned) }
+    λ flat. let e = flat (triangle_at ts 0).a (triangle_at ts 0).b (triangle_at ts 0).c t.listed.a t.listed.b t.listed.c in omega (arith, ints, t.turned)
 
 -- point c is a third point of the side s
 pub record IsThird (ps : List Point) (s : Segment) (c : ℕ) : Type 0 where

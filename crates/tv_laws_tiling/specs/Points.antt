@@ -1,28 +1,22 @@
 -- What the laws ask of listed points.
 --
--- IsSmall p      == both coordinates are at most 100 in absolute value
--- AreSmall ps    == all points are small
+-- AreSmall ps    == all points are within the limit of coordinates
 -- AreDistinct ps == no point stands twice
--- SpansPlane ps  == some three listed points are not on a line
-use Rattle.std.specs.Prelude.{◌≡◌, ◌≢◌, ℕ, ◌<◌, ◌≤◌, pos, List, length, unsigned_abs}
+-- IsFlat ps      == each three places have the turn 0: there are fewer than three distinct points, or all lie on a line
+-- SpansPlane ps  == they are not flat
+use Rattle.std.specs.Prelude.{◌≡◌, ℕ, ◌<◌, pos, List, length}
 use Rattle.std.specs.List.{AllByRecursion}
 use Rattle.tv_spec_plane.specs.Plane.{Point, at, turn}
-
-pub record IsSmall (p : Point) : Type 0 where
-  pub x : unsigned_abs p.x ≤ 100
-  pub y : unsigned_abs p.y ≤ 100
+use Rattle.tv_spec_plane.specs.Limits.{HasCoordinates}
 
 abbrev pub AreSmall : List Point → Type 0
-AreSmall ps = AllByRecursion IsSmall ps
+AreSmall ps = AllByRecursion HasCoordinates ps
 
 abbrev pub AreDistinct : List Point → Type 0
 AreDistinct ps = (i j : ℕ) → i < length ps → j < length ps → at ps i ≡ at ps j → i ≡ j
 
-pub record SpansPlane (ps : List Point) : Type 0 where
-  pub a : ℕ
-  pub b : ℕ
-  pub c : ℕ
-  pub a_listed : a < length ps
-  pub b_listed : b < length ps
-  pub c_listed : c < length ps
-  pub turned : turn (at ps a) (at ps b) (at ps c) ≢ pos 0
+abbrev pub IsFlat : List Point → Type 0
+IsFlat ps = (i j k : ℕ) → i < length ps → j < length ps → k < length ps → turn (at ps i) (at ps j) (at ps k) ≡ pos 0
+
+abbrev pub SpansPlane : List Point → Type 0
+SpansPlane ps = IsFlat ps → ⊥

@@ -5,12 +5,10 @@ use Rattle.std.proofs.lemmas.Int.{ints}
 use Rattle.tv_spec_plane.specs.Plane.{Point, at, turn, IsBetween}
 use Rattle.tv_lemmas.proofs.Integers.{sub-mul, diff_of, diff-pos, diff-same, diffs}
 use Rattle.tv_lemmas.proofs.Signs.{mul-nonneg-nonneg, mul-neg-pos, square-nonneg, squares-positive, neighbours-nonneg}
+use Rattle.tv_laws_tiling.proofs.Heights.{base}
 use Rattle.tv_laws_tiling.proofs.Turns.{turn-sum, turn-spread, point-same}
 
 -- ---- coordinates are turns over fixed lines
-abbrev base : Point
-base = record { x = pos 0; y = pos 0 }
-
 turn-x : (p : Point) → turn base (record { x = pos 0; y = negsuc 0 }) p ≡ p.x
 unfolding turn
 turn-x p = omega (arith, ints)

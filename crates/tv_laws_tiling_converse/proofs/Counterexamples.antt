@@ -88,7 +88,7 @@ couple_hull = record {
 }
 
 couple_small : AreSmall couple
-couple_small = (record { x = omega arith; y = omega arith }, (record { x = omega arith; y = omega arith }, tt))
+couple_small = ((omega arith, omega arith), ((omega arith, omega arith), tt))
 
 couple_distinct : AreDistinct couple
 couple_distinct i j hi hj e = by_two (λ a. at couple a ≡ at couple j → a ≡ j)

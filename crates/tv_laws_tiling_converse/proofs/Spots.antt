@@ -12,7 +12,8 @@ use Rattle.std.proofs.lemmas.Int.{ints, unsigned_abs-mul}
 use Rattle.std.proofs.Math.Nat.{mul-le-mul}
 use Rattle.tv_spec_plane.specs.Plane.{Point, at, turn}
 use Rattle.tv_spec_plane.specs.Tiling.{Rational, side, IsGeneric, IsLeft}
-use Rattle.tv_laws_tiling.specs.Points.{IsSmall, AreSmall}
+use Rattle.tv_spec_plane.specs.Limits.{HasCoordinates}
+use Rattle.tv_laws_tiling.specs.Points.{AreSmall}
 use Rattle.tv_lemmas.proofs.Integers.{diff_of, diff-same, diffs}
 use Rattle.tv_lemmas.proofs.Signs.{sign}
 use Rattle.tv_laws_tiling.proofs.Heights.{at-small}
@@ -85,8 +86,8 @@ pub record IsNear (p : Point) : Type 0 where
   pub x : unsigned_abs p.x ≤ 300
   pub y : unsigned_abs p.y ≤ 300
 
-pub small-near : (p : Point) → IsSmall p → IsNear p
-small-near p h = record { x = omega (arith, h.x); y = omega (arith, h.y) }
+pub small-near : (p : Point) → HasCoordinates p → IsNear p
+small-near p h = record { x = omega (arith, h.0); y = omega (arith, h.1) }
 
 product_within : (a b : ℤ) → unsigned_abs a ≤ 200 → unsigned_abs b ≤ 400 → unsigned_abs (a *ℤ b) ≤ 80000
 product_within a b h k = rw (unsigned_abs-mul a b) (mul-le-mul h k)
@@ -94,17 +95,17 @@ product_within a b h k = rw (unsigned_abs-mul a b) (mul-le-mul h k)
 difference_within : (u v : ℤ) → unsigned_abs u ≤ 80000 → unsigned_abs v ≤ 80000 → unsigned_abs (u -ℤ v) ≤ 160000
 difference_within u v h k = omega (arith, ints)
 
-turn-digit : (e f p : Point) → IsSmall e → IsSmall f → IsNear p → IsDigit (turn e f p)
+turn-digit : (e f p : Point) → HasCoordinates e → HasCoordinates f → IsNear p → IsDigit (turn e f p)
 turn-digit e f p he hf hp = rw (turn-is e f p) (difference_within ((f.x -ℤ e.x) *ℤ (p.y -ℤ e.y)) ((f.y -ℤ e.y) *ℤ (p.x -ℤ e.x))
-    (product_within (f.x -ℤ e.x) (p.y -ℤ e.y) (omega (arith, ints, he.x, hf.x)) (omega (arith, ints, he.y, hp.y)))
-    (product_within (f.y -ℤ e.y) (p.x -ℤ e.x) (omega (arith, ints, he.y, hf.y)) (omega (arith, ints, he.x, hp.x))))
+    (product_within (f.x -ℤ e.x) (p.y -ℤ e.y) (omega (arith, ints, he.0, hf.0)) (omega (arith, ints, he.1, hp.y)))
+    (product_within (f.y -ℤ e.y) (p.x -ℤ e.x) (omega (arith, ints, he.1, hf.1)) (omega (arith, ints, he.0, hp.x))))
 
 pub mirror : Point → Point → Point
 mirror a c = record { x = a.x +ℤ (a.x -ℤ c.x); y = a.y +ℤ (a.y -ℤ c.y) }
 
-pub mirror-near : (a c : Point) → IsSmall a → IsSmall c → IsNear (mirror a c)
+pub mirror-near : (a c : Point) → HasCoordinates a → HasCoordinates c → IsNear (mirror a c)
 unfolding mirror
-mirror-near a c ha hc = record { x = omega (arith, ints, ha.x, hc.x); y = omega (arith, ints, ha.y, hc.y) }
+mirror-near a c ha hc = record { x = omega (arith, ints, ha.0, hc.0); y = omega (arith, ints, ha.1, hc.1) }
 
 pub turn-mirror : (e f a c : Point) → turn e f (mirror a c) ≡ turn e f a +ℤ (turn e f a -ℤ turn e f c)
 unfolding turn mirror
@@ -114,19 +115,19 @@ turn-mirror e f a c =
 
 -- ---- spots over lines of small points
 pub record IsPlace (a b c : Point) : Type 0 where
-  pub first : IsSmall a
-  pub second : IsSmall b
+  pub first : HasCoordinates a
+  pub second : HasCoordinates b
   pub third : IsNear c
 
-pub spot-leads : (e f a b c : Point) → IsSmall e → IsSmall f → IsPlace a b c → pos 0 <ℤ side e f (spot a b c) → Leads (turn e f a) (turn e f b) (turn e f c)
+pub spot-leads : (e f a b c : Point) → HasCoordinates e → HasCoordinates f → IsPlace a b c → pos 0 <ℤ side e f (spot a b c) → Leads (turn e f a) (turn e f b) (turn e f c)
 spot-leads e f a b c he hf h left =
     let more = rw (side-spot e f a b c) at left in
     digits-lead _ _ _ (turn-digit e f a he hf (small-near a h.first)) (turn-digit e f b he hf (small-near b h.second)) (turn-digit e f c he hf h.third) more
 
-pub leads-spot : (e f a b c : Point) → IsSmall e → IsSmall f → IsPlace a b c → Leads (turn e f a) (turn e f b) (turn e f c) → pos 0 <ℤ side e f (spot a b c)
+pub leads-spot : (e f a b c : Point) → HasCoordinates e → HasCoordinates f → IsPlace a b c → Leads (turn e f a) (turn e f b) (turn e f c) → pos 0 <ℤ side e f (spot a b c)
 leads-spot e f a b c he hf h lead = rw (side-spot e f a b c) (lead-digits _ _ _ (turn-digit e f a he hf (small-near a h.first)) (turn-digit e f b he hf (small-near b h.second)) (turn-digit e f c he hf h.third) lead)
 
-spot-off : (e f a b c : Point) → IsSmall e → IsSmall f → IsPlace a b c → turn a b c ≢ pos 0 → side e f (spot a b c) ≡ pos 0 → e ≡ f
+spot-off : (e f a b c : Point) → HasCoordinates e → HasCoordinates f → IsPlace a b c → turn a b c ≢ pos 0 → side e f (spot a b c) ≡ pos 0 → e ≡ f
 spot-off e f a b c he hf h apart on =
     let none = digits-none _ _ _ (turn-digit e f a he hf (small-near a h.first)) (turn-digit e f b he hf (small-near b h.second)) (turn-digit e f c he hf h.third) (rw (side-spot e f a b c) at on) in
     turn-flat a b c e f apart (none.1 ∙ sym none.0) (none.2 ∙ sym none.0)
@@ -139,7 +140,7 @@ spot-generic ps a b c small h apart = record {
 }
 
 -- a spot on the left of the side ab of a triangle is inside the triangle
-pub spot-left : (a b c d : Point) → IsSmall d → IsPlace a b c → pos 0 <ℤ turn a b c → turn a b d ≡ pos 1 → IsLeft a b d (spot a b c)
+pub spot-left : (a b c d : Point) → HasCoordinates d → IsPlace a b c → pos 0 <ℤ turn a b c → turn a b d ≡ pos 1 → IsLeft a b d (spot a b c)
 spot-left a b c d hd h left one = record {
   ab = leads-spot a b a b c h.first h.second h (inr (turn-last a b, inr (turn-second a b, left)));
   bc = leads-spot b d a b c h.second hd h (inl (let e = turn-rotate a b d in omega (arith, ints)));

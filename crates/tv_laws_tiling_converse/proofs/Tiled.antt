@@ -14,6 +14,7 @@ use Rattle.tv_laws_tiling.proofs.Lists.{among-flat_map}
 use Rattle.tv_laws_tiling.proofs.Rotations.{turn-rotate, turn-exchange}
 use Rattle.tv_laws_tiling.proofs.Turns.{turn-apart, turn-sum, turn-flat}
 use Rattle.tv_laws_tiling.proofs.Sides.{turned-at}
+use Rattle.tv_laws_tiling.proofs.Spread.{spans-three}
 use Rattle.tv_laws_tiling.proofs.Insides.{triangle-left}
 use Rattle.tv_laws_tiling_converse.proofs.Spots.{spot, spot-generic}
 use Rattle.tv_laws_tiling_converse.proofs.Neighbours.{edges-once, edges-matched}
@@ -23,7 +24,7 @@ use Rattle.tv_laws_tiling_converse.proofs.Between.{turn-on_line, beyond-between}
 
 -- some listed point is strictly left of a hull segment
 hull-third : (ps : List Point) → SpansPlane ps → (a b : ℕ) → IsHullSegment ps a b → (c : ℕ) × (c < length ps) × (pos 0 <ℤ turn (at ps a) (at ps b) (at ps c))
-hull-third ps r a b h = elim (sign (turn (at ps a) (at ps b) (at ps r.a))) [
+hull-third ps spans a b h = let r = spans-three ps spans in elim (sign (turn (at ps a) (at ps b) (at ps r.a))) [
   | inl less ↦ absurd (let n = h.left r.a r.a_listed in omega (arith, ints))
   | inr (inr more) ↦ (r.a, r.a_listed, more)
   | inr (inl za) ↦ elim (sign (turn (at ps a) (at ps b) (at ps r.b))) [

@@ -2,6 +2,8 @@
 --
 -- map-same            equal values make equal lists
 -- flat_map-same       equal pieces make equal lists; flat_map-same_on, where they are equal on the members
+-- flat_map-flat_map   pieces of pieces are joined piece by piece
+-- flat_map-none       joined pieces are empty where each is; flat_map-last, over a range the last where all others are empty
 -- flat_map-filter     pieces after a filter are empty where the test fails
 -- filter-map          a filter of values is a filter before them
 -- filter-flat_map     a filter of joined pieces filters each piece
@@ -12,10 +14,11 @@
 -- list_any-flat_map   a member of joined pieces passes where one of a piece does
 -- length-flat_map-le  joined pieces of length at most m are at most m times as many
 -- length-pairs        as many pairs as the product of the two lengths
-use Rattle.std.specs.Prelude.{◌≡◌, ℕ, ◌*◌, ◌≤◌, Bool, true, false, cond, ◌||◌, List, [], ◌∷◌, ◌++◌, map, filter, length}
-use Rattle.std.specs.List.{flat_map, AllByRecursion, list_any}
-use Rattle.std.proofs.Common.{refl, ap, ◌∙◌, arith, length-append}
+use Rattle.std.specs.Prelude.{◌≡◌, ℕ, zero, suc, ◌+◌, ◌*◌, ◌<◌, ◌≤◌, Bool, true, false, cond, ◌||◌, List, [], ◌∷◌, ◌++◌, map, filter, length}
+use Rattle.std.specs.List.{flat_map, AllByRecursion, list_any, range_with_len}
+use Rattle.std.proofs.Common.{refl, sym, ap, ◌∙◌, arith, length-append, append-nil, add-zero}
 use Rattle.std.proofs.lemmas.List.{length-map}
+use Rattle.std.proofs.lemmas.List.Concat.{flat_map-append}
 use Rattle.std.proofs.lemmas.List.Elements.{filter-append}
 use Rattle.std.proofs.lemmas.List.Folds.{list_any-append}
 
@@ -30,6 +33,18 @@ flat_map-same f g same (x ∷ xs) = ap (λ ys. ys ++ flat_map f xs) (same x) ∙
 pub flat_map-same_on : {A B : Type 0} (P : A → Type 0) (f g : A → List B) → ((x : A) → P x → f x ≡ g x) → (xs : List A) → AllByRecursion P xs → flat_map f xs ≡ flat_map g xs
 flat_map-same_on P f g same [] all = refl
 flat_map-same_on P f g same (x ∷ xs) all = ap (λ ys. ys ++ flat_map f xs) (same x all.0) ∙ ap (λ ys. g x ++ ys) (flat_map-same_on P f g same xs all.1)
+
+pub flat_map-flat_map : {A B C : Type 0} (f : B → List C) (g : A → List B) (xs : List A) → flat_map f (flat_map g xs) ≡ flat_map (λ x. flat_map f (g x)) xs
+flat_map-flat_map f g [] = refl
+flat_map-flat_map f g (x ∷ xs) = flat_map-append f (g x) (flat_map g xs) ∙ ap (λ ys. flat_map f (g x) ++ ys) (flat_map-flat_map f g xs)
+
+pub flat_map-none : {A B : Type 0} (xs : List A) → flat_map {A = B} (λ (x : A). []) xs ≡ []
+flat_map-none [] = refl
+flat_map-none (x ∷ xs) = flat_map-none xs
+
+pub flat_map-last : {B : Type 0} (F : ℕ → List B) (k n : ℕ) → ((j : ℕ) → j < k + n → F j ≡ []) → flat_map F (range_with_len k (suc n)) ≡ F (k + n)
+flat_map-last F k zero none = append-nil (F k) ∙ ap F (sym (add-zero k))
+flat_map-last F k (suc n) none = ap (λ ys. ys ++ flat_map F (range_with_len (k + 1) (suc n))) (none k (omega arith)) ∙ flat_map-last F (k + 1) n (λ j h. none j (omega arith)) ∙ ap F (omega arith)
 
 cond-append : {B : Type 0} (b : Bool) (ys zs : List B) → cond b (ys ++ zs) zs ≡ cond b ys [] ++ zs
 cond-append true ys zs = refl

@@ -14,10 +14,13 @@
 -- contains-head   the first is a member; contains-later, a member of the rest is one
 -- contains-cases  a member is the first or one of the rest
 -- contains-filter a member that passes a test stays in the filtered list
-use Rattle.std.specs.Prelude.{◌≡◌, ◌⊎◌, Contains, ℕ, zero, suc, ◌<◌, Bool, true, false, cond, ◌||◌, List, [], ◌∷◌, ◌++◌, map, filter, length, slice_index_or}
-use Rattle.std.specs.List.{flat_map, AllByRecursion, list_any}
+-- contains-map    its value is a member of the values; contains-flat_map, a member of its piece one of the joined pieces
+-- contains-range  a number from k on is a member of the n numbers from k on, where it is below k + n
+use Rattle.std.specs.Prelude.{◌≡◌, ◌⊎◌, Contains, ℕ, zero, suc, ◌+◌, ◌<◌, ◌≤◌, Bool, true, false, cond, ◌||◌, List, [], ◌∷◌, ◌++◌, map, filter, length, slice_index_or}
+use Rattle.std.specs.List.{flat_map, AllByRecursion, list_any, range_with_len}
 use Rattle.std.proofs.Common.{refl, ap, arith, inl, inr}
-use Rattle.std.proofs.lemmas.List.Elements.{All-from_recursion, recursion_from_All, All-contains, All-contains_itself}
+use Rattle.std.proofs.lemmas.Bool.{cases_eq}
+use Rattle.std.proofs.lemmas.List.Elements.{All-from_recursion, recursion_from_All, All-contains, All-contains_itself, Contains-append_left, Contains-append_right}
 
 pub all-append : {A : Type 0} (P : A → Type 0) (xs ys : List A) → AllByRecursion P xs → AllByRecursion P ys → AllByRecursion P (xs ++ ys)
 all-append P [] ys all more = more
@@ -111,3 +114,25 @@ filter-keeps p (x ∷ xs) = (filter-head p x xs (p x) refl, all-onto (λ y. p y 
 
 pub contains-filter : {A : Type 0} (p : A → Bool) (x : A) (xs : List A) → Contains xs x → p x ≡ true → Contains (filter p xs) x
 contains-filter p x xs among on = all-contains (λ y. p y ≡ true → Contains (filter p xs) y) xs x (filter-keeps p xs) among on
+
+values-kept : {A B : Type 0} (f : A → B) (xs : List A) → AllByRecursion (λ x. Contains (map f xs) (f x)) xs
+values-kept f [] = tt
+values-kept f (x ∷ xs) = (contains-head (f x) (f x) (map f xs) refl, all-onto (λ y. Contains (map f xs) (f y)) (λ y. Contains (f x ∷ map f xs) (f y)) (λ y among. contains-later (f y) (f x) (map f xs) among) xs (values-kept f xs))
+
+pub contains-map : {A B : Type 0} (f : A → B) (x : A) (xs : List A) → Contains xs x → Contains (map f xs) (f x)
+contains-map f x xs among = all-contains (λ y. Contains (map f xs) (f y)) xs x (values-kept f xs) among
+
+pieces-kept : {A B : Type 0} (f : A → List B) (y : B) (xs : List A) → AllByRecursion (λ x. Contains (f x) y → Contains (flat_map f xs) y) xs
+pieces-kept f y [] = tt
+pieces-kept f y (x ∷ xs) =
+    (Contains-append_left (f x) (flat_map f xs) y, all-onto (λ z. Contains (f z) y → Contains (flat_map f xs) y) (λ z. Contains (f z) y → Contains (f x ++ flat_map f xs) y) (λ z kept among. Contains-append_right (f x) (flat_map f xs) y (kept among)) xs (pieces-kept f y xs))
+
+pub contains-flat_map : {A B : Type 0} (f : A → List B) (x : A) (y : B) (xs : List A) → Contains xs x → Contains (f x) y → Contains (flat_map f xs) y
+contains-flat_map f x y xs among = all-contains (λ z. Contains (f z) y → Contains (flat_map f xs) y) xs x (pieces-kept f y xs) among
+
+pub contains-range : (k n i : ℕ) → k ≤ i → i < k + n → Contains (range_with_len k n) i
+contains-range k zero i h l = absurd (omega arith)
+contains-range k (suc n) i h l = elim (cases_eq k i) [
+  | inl e ↦ contains-head i k (range_with_len (k + 1) n) e
+  | inr ne ↦ contains-later i k (range_with_len (k + 1) n) (contains-range (k + 1) n i (omega (arith, ne)) (omega arith))
+]

@@ -1,34 +1,39 @@
 -- What stays true while a source is read, and what one read does to it.
 use Rattle.std.proofs.Common.{◌≡◌, ℕ, ◌+◌, ◌-◌, ◌<◌, ◌≤◌, min, List, [], ◌++◌, length, take, drop, ap, sym, ◌∙◌, arith}
-use Rattle.std.specs.Prelude.{Option, Err}
+use Rattle.std.specs.Prelude.{Err}
 use Rattle.std.specs.Io.KnownBytes.{Consumes}
 use Rattle.std.proofs.KnownBytes.{Consumes-trans}
 use Rattle.std.proofs.lemmas.List.{take-append-le, take-append-drop, take-take, take_all, drop-drop, length-append, length-drop, length-take-le, drop_all}
+use Rattle.tv_outside.specs.Faults.{next_count}
 use Rattle.tv_outside.specs.Reading.{Takes}
+use Rattle.tv_outside.specs.Seen.{Seen}
 use Rattle.tv_outside.specs.declared.reading.ReadEnd.TheVariants.{TooLong, Memory}
 
--- the reads so far took these bytes, which are within the limit, and none of them failed
-pub record ReadsSoFar (old new : Option (List ℕ)) (before now limit : ℕ) (bytes : List ℕ) : Type 0 where
-  pub taken : Consumes old new bytes
+-- the reads so far took these bytes, at least one a read, which are within the limit, and none of them failed
+pub record ReadsSoFar (old new : Seen) (limit : ℕ) (bytes : List ℕ) : Type 0 where
+  pub taken : Consumes old.bytes new.bytes bytes
   pub within : length bytes ≤ limit
-  pub kept : now ≡ before
+  pub calls : new.calls ≤ old.calls + length bytes
+  pub kept : new.faults ≡ old.faults
 
-module _ (old mid new : Option (List ℕ)) (before middle now limit : ℕ) (bytes more : List ℕ) (so_far : ReadsSoFar old mid before middle limit bytes)
-    (took : Consumes mid new more) (kept : now ≡ middle) where
+module _ (old mid new : Seen) (limit : ℕ) (bytes more : List ℕ) (so_far : ReadsSoFar old mid limit bytes)
+    (took : Consumes mid.bytes new.bytes more) (call : new.calls ≡ next_count mid.calls) (kept : new.faults ≡ mid.faults) where
   -- one read took what is more than the limit
-  pub too_long : length bytes + length more ≡ limit + 1 → Takes old new before now limit (Err TooLong)
+  pub too_long : length bytes + length more ≡ limit + 1 → Takes old new limit (Err TooLong)
   too_long reach = record {
     bytes = bytes ++ more;
-    taken = Consumes-trans old mid new bytes more so_far.taken took;
+    taken = Consumes-trans old.bytes mid.bytes new.bytes bytes more so_far.taken took;
+    calls = omega (arith, so_far.calls, length-append bytes more);
     later = omega (arith, so_far.kept);
     outcome = (omega (arith, length-append bytes more), kept ∙ so_far.kept);
   }
 
   -- one read took bytes within the limit, for which there is no memory
-  pub no_memory : length bytes + length more ≤ limit → Takes old new before now limit (Err Memory)
+  pub no_memory : length bytes + length more ≤ limit → Takes old new limit (Err Memory)
   no_memory fits = record {
     bytes = bytes ++ more;
-    taken = Consumes-trans old mid new bytes more so_far.taken took;
+    taken = Consumes-trans old.bytes mid.bytes new.bytes bytes more so_far.taken took;
+    calls = omega (arith, so_far.calls, length-append bytes more);
     later = omega (arith, so_far.kept);
     outcome = (omega (arith, length-append bytes more), kept ∙ so_far.kept);
   }

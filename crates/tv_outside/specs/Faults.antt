@@ -4,8 +4,8 @@
 -- next_count n            == n counted one further
 -- count_after before r    == a count of faults after a call that answered r: one further where r is an error
 -- Rose before now         == a count rose, or stands at its last number
--- HasCause before now r   == a count of faults stays where r is Ok, and rose where r is an error
-use Rattle.std.specs.Prelude.{◌≡◌, ℕ, ◌+◌, ◌-◌, ◌^◌, ◌≤◌, min, Result, is_ok, if◌then◌else◌, OnOk, OnErr}
+-- RoseOnce before now     == a count rose by one, or stands at its last number
+use Rattle.std.specs.Prelude.{◌≡◌, ℕ, ◌+◌, ◌-◌, ◌^◌, ◌≤◌, min, Result, is_ok, if◌then◌else◌}
 
 abbrev pub last_count : ℕ
 last_count = 2 ^ 64 - 1
@@ -19,7 +19,5 @@ count_after before r = if is_ok r then before else next_count before
 abbrev pub Rose : ℕ → ℕ → Type 0
 Rose before now = next_count before ≤ now
 
-pub record HasCause {A E : Type 0} (before now : ℕ) (result : Result A E) : Type 0 where
-  pub later : before ≤ now
-  pub kept : OnOk result (now ≡ before)
-  pub failed : OnErr result (Rose before now)
+abbrev pub RoseOnce : ℕ → ℕ → Type 0
+RoseOnce before now = now ≡ next_count before

@@ -4,8 +4,8 @@
 ghost use Rattle.std.specs.Prelude.{◌≡◌, ◌<◌, ◌≤◌, ◌↔◌, length, Some, IsErr, IfOk, OnErr};
 ghost use Rattle.std.specs.Io.{WritesAtMost};
 ghost use Rattle.std.specs.Io.KnownBytes.{WriteAppends};
-ghost use Rattle.tv_outside.specs.Faults.{HasCause};
-ghost use Rattle.tv_outside.specs.Store.{first_store, taken_count, after_write, after_failed_write, IsRefused};
+ghost use Rattle.tv_outside.specs.Seen.{IsCounted};
+ghost use Rattle.tv_outside.specs.Store.{seen_store, first_store, taken_count, after_write, after_failed_write, IsRefused};
 
 use crate::schedule::Schedule;
 use crate::{Failed, Sink};
@@ -76,15 +76,13 @@ impl MemSink {
 }
 
 impl Sink for MemSink {
-    ghost faults = { λ s. s.schedule.faults };
-
-    ghost taken = { λ s. Some s.taken };
+    ghost seen = { λ s. seen_store s };
 
     fn write(&mut self, piece: &[u8]) -> Result<usize, Failed>
         ensures bound { WritesAtMost result piece.now }
         ensures progress { IfOk result (λ n. 0 < length piece.now → 0 < n) }
         ensures bytes { WriteAppends (Some self.old.taken) (Some self.new.taken) result piece.now }
-        ensures cause { HasCause self.old.schedule.faults self.new.schedule.faults result }
+        ensures counted { IsCounted (seen_store self.old) (seen_store self.new) result }
 
         ensures failed { IsErr result ↔ IsRefused self.old piece.now }
         ensures count { IfOk result (λ n. n ≡ taken_count self.old (length piece.now)) }

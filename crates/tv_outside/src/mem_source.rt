@@ -4,9 +4,9 @@
 ghost use Rattle.std.specs.Prelude.{◌≡◌, ◌≤◌, ◌↔◌, ◌++◌, length, take, drop, Some, IsErr, IfOk, OnErr};
 ghost use Rattle.std.specs.Io.{ReadsAtMost};
 ghost use Rattle.std.specs.Io.KnownBytes.{ReadConsumes};
-ghost use Rattle.tv_outside.specs.Faults.{HasCause};
 ghost use Rattle.tv_outside.specs.Schedule.{IsDue};
-ghost use Rattle.tv_outside.specs.Supply.{first_supply, given_count, after_read, after_failed_read};
+ghost use Rattle.tv_outside.specs.Seen.{IsCounted};
+ghost use Rattle.tv_outside.specs.Supply.{seen_supply, first_supply, given_count, after_read, after_failed_read};
 
 use crate::schedule::Schedule;
 use crate::{Failed, Source};
@@ -62,20 +62,19 @@ impl MemSource {
 }
 
 impl Source for MemSource {
-    ghost faults = { λ s. s.schedule.faults };
-
-    ghost left = { λ s. Some s.left };
+    ghost seen = { λ s. seen_supply s };
 
     fn read(&mut self, buf: &mut [u8]) -> Result<usize, Failed>
         ensures bound { ReadsAtMost result buf.new }
         ensures bytes { ReadConsumes (Some self.old.left) (Some self.new.left) result buf.new }
-        ensures cause { HasCause self.old.schedule.faults self.new.schedule.faults result }
+        ensures counted { IsCounted (seen_supply self.old) (seen_supply self.new) result }
+        ensures untouched { OnErr result (buf.new ≡ buf.old) }
 
         ensures failed { IsErr result ↔ IsDue self.old.schedule }
         ensures count { IfOk result (λ n. n ≡ given_count self.old (length buf.old)) }
         ensures filled { IfOk result (λ n. buf.new ≡ take n self.old.left ++ drop n buf.old) }
         ensures ok { IfOk result (λ n. self.new ≡ after_read self.old n) }
-        ensures err { OnErr result ((self.new ≡ after_failed_read self.old) × (buf.new ≡ buf.old)) }
+        ensures err { OnErr result (self.new ≡ after_failed_read self.old) }
     {
         self.schedule.count_call()?;
         let left = &self.bytes[self.position..];

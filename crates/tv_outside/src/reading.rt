@@ -23,15 +23,15 @@ pub enum ReadEnd {
 }
 
 // How many bytes one read asks for at most.
-const CHUNK: usize = 4096;
+pub(crate) const CHUNK: usize = 4096;
 
 /// All bytes that are left in `source`, of which there may be at most `limit`.
 ///
-/// Where it answers an error, the bytes that its reads took are gone. It never takes more than `limit + 1`.
+/// Where it answers an error, the bytes that its reads took are gone. It never takes more than `limit + 1`, and it reads no
+/// more after the end, nor after a read that failed.
 pub fn read_all<S: Source>(alloc: Global, source: &mut S, limit: usize) -> Result<Vec<u8>, ReadEnd>
     requires { limit < 2 ^ 32 }
-    ensures { Takes (S.left source.old) (S.left source.new)
-        (S.faults source.old) (S.faults source.new) limit result }
+    ensures { Takes (S.seen source.old) (S.seen source.new) limit result }
 {
     let mut bytes = Vec::new(alloc);
     let mut buffer = [0; CHUNK];

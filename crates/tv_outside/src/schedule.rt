@@ -2,7 +2,6 @@
 //! It moves no bytes, and it knows no other cause of a fault than its list.
 
 ghost use Rattle.std.specs.Prelude.{◌≡◌, ◌≤◌, ◌↔◌, IsErr, OnOk, OnErr};
-ghost use Rattle.tv_outside.specs.Faults.{HasCause};
 ghost use Rattle.tv_outside.specs.Schedule.{first_schedule, after_call, after_fault, IsDue};
 
 use crate::Failed;
@@ -44,7 +43,7 @@ impl Schedule {
         ensures failed { IsErr result ↔ IsDue self.old }
         ensures ok { OnOk result (self.new ≡ after_call self.old) }
         ensures err { OnErr result (self.new ≡ after_fault (after_call self.old)) }
-        ensures cause { HasCause self.old.faults self.new.faults result }
+        ensures later { self.old.faults ≤ self.new.faults }
     {
         let call = self.calls;
         self.calls = call.saturating_add(1);

@@ -121,6 +121,119 @@ fn errors_of_std_are_faults(rt: HostRuntime) -> Result<(), Fail> {
     Ok(())
 }
 
+// A reader and a writer of std that err `errs` times, then take nothing `stalls` times, then give or take three bytes. It
+// counts how often it was asked, and a flush before anything was written errs.
+#[derive(Drop)]
+struct Shaky {
+    errs: u32,
+    stalls: u32,
+    calls: u32,
+    flushes: u32,
+    written: bool,
+}
+
+fn failing_first(errs: u32, stalls: u32) -> Shaky {
+    Shaky {
+        errs,
+        stalls,
+        calls: 0,
+        flushes: 0,
+        written: false,
+    }
+}
+
+impl Read for Shaky {
+    fn read(&mut self, buf: &mut [u8]) -> io::Result<usize> {
+        self.calls = self.calls.saturating_add(1);
+        let count = buf.len().min(3);
+        // An error of std may leave anything in the buffer.
+        buf[..count].fill(b'x');
+        if self.calls <= self.errs {
+            return Err(io::Error::from(ErrorKind::Interrupted));
+        }
+        Ok(count)
+    }
+}
+
+impl Write for Shaky {
+    fn write(&mut self, buf: &[u8]) -> io::Result<usize> {
+        self.calls = self.calls.saturating_add(1);
+        if self.calls <= self.errs {
+            return Err(io::Error::from(ErrorKind::Interrupted));
+        }
+        self.written = true;
+        if self.calls <= self.stalls {
+            return Ok(0);
+        }
+        Ok(buf.len().min(3))
+    }
+
+    fn flush(&mut self) -> io::Result<()> {
+        self.flushes = self.flushes.saturating_add(1);
+        if self.written {
+            Ok(())
+        } else {
+            Err(io::Error::from(ErrorKind::BrokenPipe))
+        }
+    }
+}
+
+// A read that fails and leaves the buffer alone, and one that gives three bytes: the source's counts after both.
+fn two_reads(reader: &mut Shaky) -> Option<(u64, u64)> {
+    let mut source = StdSource::new(reader);
+    let mut buf = [7; 4];
+    if source.read(&mut buf) != Err(Failed) {
+        return None;
+    }
+    if buf != [7; 4] {
+        return None;
+    }
+    if source.read(&mut buf) != Ok(3) {
+        return None;
+    }
+    Some((source.calls(), source.faults()))
+}
+
+// A write that fails, and one that takes three bytes: the sink's counts after both.
+fn two_writes(writer: &mut Shaky) -> Option<(u64, u64)> {
+    let mut sink = StdSink::new(writer);
+    if sink.write(b"abc") != Err(Failed) {
+        return None;
+    }
+    if sink.write(b"abcd") != Ok(3) {
+        return None;
+    }
+    Some((sink.calls(), sink.faults()))
+}
+
+// One read is one call of the reader: the first, which errs, is Failed with one fault, and only the next one gives bytes.
+#[test]
+fn a_reader_that_errs_once_is_not_asked_again(rt: HostRuntime) -> Result<(), Fail> {
+    let mut reader = failing_first(1, 0);
+    assert!(rt; two_reads(&mut reader) == Some((2, 1)));
+    assert_eq!(rt; reader.calls, 2);
+    Ok(())
+}
+
+// So is a write, whether the writer errs or takes nothing, and its flush comes after it.
+#[test]
+fn a_writer_that_errs_once_is_not_asked_again(rt: HostRuntime) -> Result<(), Fail> {
+    let mut writer = failing_first(1, 0);
+    assert!(rt; two_writes(&mut writer) == Some((2, 1)));
+    assert_eq!(rt; writer.calls, 2);
+    assert_eq!(rt; writer.flushes, 1);
+    Ok(())
+}
+
+#[test]
+fn a_writer_that_stalls_once_is_not_asked_again(rt: HostRuntime) -> Result<(), Fail> {
+    let mut writer = failing_first(0, 1);
+    assert!(rt; two_writes(&mut writer) == Some((2, 1)));
+    assert_eq!(rt; writer.calls, 2);
+    assert_eq!(rt; writer.flushes, 2);
+    Ok(())
+}
+
 #[test]
 fn errors_say_what_happened(rt: HostRuntime) -> Result<(), Fail> {
     let alloc = rt.alloc();

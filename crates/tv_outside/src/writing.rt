@@ -5,10 +5,9 @@ ghost use Rattle.tv_outside.specs.Writing.{Gives};
 
 use crate::{Failed, Sink};
 
-/// Writes all of `text`; where a write fails, the sink has a beginning of it.
+/// Writes all of `text`; where a write fails, the sink has a beginning of it, and no more is written.
 pub fn write_all<K: Sink>(sink: &mut K, text: &[u8]) -> Result<(), Failed>
-    ensures { Gives (K.taken sink.old) (K.taken sink.new)
-        (K.faults sink.old) (K.faults sink.new) text.now result }
+    ensures { Gives (K.seen sink.old) (K.seen sink.new) text.now result }
 {
     let mut done = 0;
     'writes: while done < text.len() {

@@ -1,6 +1,7 @@
 -- A diagram has no more rows than cells, and no row longer than its size.
 use Rattle.std.proofs.Common.{ℕ, zero, suc, ◌≤◌, List, [], ◌∷◌, length, arith}
 use Rattle.std.specs.Prelude.{slice_index}
+use Rattle.tv_partition.specs.declared.diagram.TheConstants.{MOST_CELLS}
 use Rattle.tv_partition.specs.Rows.{FallsFrom, IsDiagram, IsSmall, size}
 
 pub falling_rows : (top : ℕ) (rows : List ℕ) → FallsFrom top rows → length rows ≤ size rows
@@ -25,15 +26,15 @@ pub falls_weaker : (low top : ℕ) (rows : List ℕ) → low ≤ top → FallsFr
 falls_weaker low top [] l f = tt
 falls_weaker low top (row ∷ rows) l f = (f.0, omega (arith, f.1), f.2)
 
-pub few_rows : (rows : List ℕ) → IsSmall rows → length rows ≤ 24
+pub few_rows : (rows : List ℕ) → IsSmall rows → length rows ≤ MOST_CELLS
 few_rows [] s = omega arith
 few_rows (row ∷ rows) s = let rest = falling_rows row rows s.0.1 in omega (arith, s.0.0, s.1)
 
-pub short_rows : (rows : List ℕ) → IsSmall rows → slice_index rows 0 ≤ 24
+pub short_rows : (rows : List ℕ) → IsSmall rows → slice_index rows 0 ≤ MOST_CELLS
 short_rows [] s = omega arith
 short_rows (row ∷ rows) s = omega (arith, s.1)
 
-pub short_row : (rows : List ℕ) (i : ℕ) → IsSmall rows → slice_index rows i ≤ 24
+pub short_row : (rows : List ℕ) (i : ℕ) → IsSmall rows → slice_index rows i ≤ MOST_CELLS
 short_row rows i s = let first = short_rows rows s in let falls = falls-row (slice_index rows 0) rows (diagram-falls rows s.0) i in omega arith
 
 pub ruleset bounds = (few_rows, short_rows, short_row)

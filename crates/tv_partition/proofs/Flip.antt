@@ -69,10 +69,13 @@ columns-size (row ∷ rows) n f =
 pub flipped-size : (rows : List ℕ) → IsDiagram rows → size (flipped rows) ≡ size rows
 flipped-size rows d = columns-size rows (slice_index rows 0) (diagram-falls rows d)
 
+pub flipped-diagram : (rows : List ℕ) → IsDiagram (flipped rows)
+flipped-diagram rows = falling_is_diagram (column rows 0) (flipped rows) (columns-fall rows (column rows 0) 0 (slice_index rows 0) (omega arith) (omega arith))
+
 pub flipped-small : (rows : List ℕ) → IsSmall rows → IsSmall (flipped rows)
 flipped-small rows s =
     let same = flipped-size rows s.0 in
-    (falling_is_diagram (column rows 0) (flipped rows) (columns-fall rows (column rows 0) 0 (slice_index rows 0) (omega arith) (omega arith)), omega (arith, s.1))
+    (flipped-diagram rows, omega (arith, s.1))
 
 column_at : (rows : List ℕ) (k n j : ℕ) → j < n → slice_index (columns rows k n) j ≡ column rows (k + j)
 column_at rows k zero j l = absurd (omega arith)

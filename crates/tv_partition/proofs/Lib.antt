@@ -5,3 +5,4 @@ pub mod Descending
 pub mod Members
 pub mod Written
 pub mod Numbered
+pub mod Shapes

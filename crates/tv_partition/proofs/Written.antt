@@ -1,8 +1,10 @@
 -- The diagrams are written row by row: what is written and what is left make the whole.
 use Rattle.std.proofs.Common.{◌≡◌, ℕ, zero, suc, ◌+◌, ◌-◌, ◌≤◌, ◌<◌, min, List, [], ◌∷◌, ◌++◌, map, arith, refl, sym, ◌∙◌, ap, append_assoc, append-nil}
 use Rattle.std.specs.List.{flat_map}
-use Rattle.tv_partition.specs.Rows.{FallsFrom, IsDiagram, IsSmall, size, diagrams, diagrams_within, down_from}
+use Rattle.tv_partition.specs.declared.diagram.TheConstants.{MOST_CELLS}
+use Rattle.tv_partition.specs.Rows.{IsSmall, size, diagrams, diagrams_within, down_from}
 use Rattle.tv_partition.specs.Within.{CanEnd, behind, after}
+use Rattle.tv_partition.proofs.Bounds.{falling_is_diagram}
 
 behind-map : (front : List ℕ) (row : ℕ) (lists : List (List ℕ)) → behind front (map (λ rows. row ∷ rows) lists) ≡ behind (front ++ row ∷ []) lists
 unfolding behind
@@ -63,7 +65,7 @@ no-room front room top (suc left) none l = rw none refl
 pub front-ends : (front : List ℕ) (top row : ℕ) → CanEnd front top → 0 < row → row ≤ top → CanEnd (front ++ row ∷ []) row
 front-ends front top row ends p l = λ rows falls. rw (append_assoc front (row ∷ []) rows) (ends (row ∷ rows) (p, l, falls))
 
-pub front-small : (front : List ℕ) (top left : ℕ) → CanEnd front top → size front + left ≤ 24 → IsSmall front
+pub front-small : (front : List ℕ) (top left : ℕ) → CanEnd front top → size front + left ≤ MOST_CELLS → IsSmall front
 front-small front top left ends l = (rw append-nil at (ends [] tt), omega arith)
 
 size-append : (xs ys : List ℕ) → size (xs ++ ys) ≡ size xs + size ys
@@ -75,11 +77,7 @@ size-push front row = let sum = size-append front (row ∷ []) in omega arith
 
 -- at the very start
 pub nothing-ends : (n : ℕ) → CanEnd [] n
-nothing-ends n = λ rows falls. falling_diagram n rows falls
-  where
-    falling_diagram : (top : ℕ) (rows : List ℕ) → FallsFrom top rows → IsDiagram rows
-    falling_diagram top [] f = tt
-    falling_diagram top (row ∷ rows) f = (f.0, f.2)
+nothing-ends n = λ rows falls. falling_is_diagram n rows falls
 
 pub behind-nothing : (n : ℕ) → behind [] (diagrams_within n n n) ≡ diagrams n
 unfolding behind diagrams

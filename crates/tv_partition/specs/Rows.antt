@@ -3,7 +3,7 @@
 -- IsDiagram rows == the rows fall weakly and none is 0
 -- FallsFrom top rows == so do they, below one of that length
 -- size rows      == the number of cells
--- IsSmall rows   == a diagram of at most 24 cells
+-- IsSmall rows   == a diagram of at most MOST_CELLS cells
 -- has rows i j   == the cell (i, j) is in the diagram: j is below row i
 -- reach rows     == the least number that no entry of a cell reaches
 -- column rows j  == the number of rows longer than j
@@ -16,6 +16,7 @@
 --                   comes first
 use Rattle.std.specs.Prelude.{ℕ, zero, suc, ◌+◌, ◌-◌, ◌<◌, ◌≤◌, min, max, Bool, cond, List, [], ◌∷◌, map, length, slice_index, nat_lt, ⊤}
 use Rattle.std.specs.List.{flat_map}
+use Rattle.tv_partition.specs.declared.diagram.TheConstants.{MOST_CELLS}
 
 -- rows below one of that length
 abbrev pub FallsFrom : ℕ → List ℕ → Type 0
@@ -31,7 +32,7 @@ size [] = 0
 size (row ∷ rows) = row + size rows
 
 abbrev pub IsSmall : List ℕ → Type 0
-IsSmall rows = IsDiagram rows × (size rows ≤ 24)
+IsSmall rows = IsDiagram rows × (size rows ≤ MOST_CELLS)
 
 abbrev pub has : List ℕ → ℕ → ℕ → Bool
 has rows i j = nat_lt j (slice_index rows i)

@@ -7,7 +7,7 @@ ghost use Rattle.std.specs.Cmp.Lexicographic.{pointwise};
 ghost use Rattle.indexmap.specs.IndexSet.{insert_all};
 ghost use Rattle.tv_partition.specs.Rows.{size, diagrams};
 
-use crate::diagram::Diagram;
+use crate::diagram::{Diagram, MOST_CELLS};
 use crate::listing;
 use indexmap::IndexSet;
 use std::alloc::{AllocError, Global};
@@ -30,7 +30,7 @@ impl Model for Diagrams {
 
 /// Every diagram of that size, in the order of `diagrams`.
 pub fn all_of(alloc: Global, size: u32) -> Result<Diagrams, AllocError>
-    requires { size ≤ 24 }
+    requires { size ≤ MOST_CELLS }
     ensures { IfOk result (λ all. all ≡ size) }
 {
     let set = numbered(alloc, listing::diagrams_of(alloc, size)?)?;

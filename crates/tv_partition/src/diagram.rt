@@ -1,18 +1,21 @@
-//! A diagram of at most 24 cells, as the list of its rows. Row i is the number of cells whose first entry is i.
+//! A diagram of at most `MOST_CELLS` cells, as the list of its rows. Row i is the number of cells whose first entry is i.
 
 ghost use Rattle.std.specs.Prelude.{◌≡◌, ℕ, ◌≤◌, ◌↔◌, List, [], nat_eq, slice_index, IsSome, IfSome, IfOk};
 ghost use Rattle.std.proofs.Common.{rules};
 ghost use Rattle.std.specs.Cmp.Lexicographic.{pointwise};
 ghost use Rattle.std.specs.Cmp.Rules.{comparing, hashing};
 ghost use Rattle.std.specs.Hash as fed;
-ghost use Rattle.tv_partition.specs.Rows.{IsSmall, size, has, reach};
+ghost use Rattle.tv_partition.specs.Rows.{IsSmall, size, has, reach, flipped};
 
 use crate::shape;
 use std::alloc::{AllocError, Global};
 use std::hash::{Hash, Hasher};
 use std::marker::Model;
 
-/// A partition as a diagram: rows that fall weakly, none of them 0, with at most 24 cells in all.
+/// The greatest number of cells of a diagram.
+pub const MOST_CELLS: u32 = 24;
+
+/// A partition as a diagram: rows that fall weakly, none of them 0, with at most `MOST_CELLS` cells in all.
 #[derive(Drop, Debug)]
 pub struct Diagram {
     rows: Vec<u32>,
@@ -50,6 +53,15 @@ impl Hash for Diagram {
     }
 }
 
+impl Clone for Diagram {
+    ghost is_clone = { λ d copy. copy ≡ d };
+
+    fn clone(&self) -> Result<Diagram, AllocError> {
+        let rows = self.rows().to_vec(*self.rows.allocator())?;
+        Ok(Diagram { rows })
+    }
+}
+
 impl Diagram {
     /// The diagram with these rows, the row of first entry 0 first.
     pub fn new(rows: Vec<u32>) -> Option<Diagram>
@@ -80,7 +92,7 @@ impl Diagram {
         }
     }
 
-    /// Tells that it is a diagram of at most 24 cells, and does nothing.
+    /// Tells that it is a diagram of at most `MOST_CELLS` cells, and does nothing.
     pub fn known(&self)
         ensures { IsSmall self.now }
     {
@@ -95,10 +107,10 @@ impl Diagram {
         self.rows.as_slice()
     }
 
-    /// The number of cells, at most 24.
+    /// The number of cells, at most `MOST_CELLS`.
     pub fn size(&self) -> u32
         ensures value { result ≡ size self.now }
-        ensures bound { result ≤ 24 }
+        ensures bound { result ≤ MOST_CELLS }
     {
         shape::size(self.rows.as_slice())
     }
@@ -107,13 +119,14 @@ impl Diagram {
     #[tactic(auto, using(crate::proofs::Bounds::bounds))]
     pub fn row(&self, i: u32) -> u32
         ensures value { result ≡ slice_index self.now i }
-        ensures bound { result ≤ 24 }
+        ensures bound { result ≤ MOST_CELLS }
     {
         shape::row(self.rows.as_slice(), i)
     }
 
     /// The diagram with the two entries of each cell exchanged.
     pub fn flip(&self) -> Result<Diagram, AllocError>
+        ensures rows { IfOk result (λ d. d ≡ flipped self.now) }
         ensures exchanged { IfOk result (λ d. (i j : ℕ) → has d j i ≡ has self.now i j) }
         ensures size { IfOk result (λ d. size d ≡ size self.now) }
     {
@@ -124,7 +137,7 @@ impl Diagram {
     /// The least number that no entry of a cell reaches.
     pub fn reach(&self) -> u32
         ensures value { result ≡ reach self.now }
-        ensures bound { result ≤ 24 }
+        ensures bound { result ≤ MOST_CELLS }
     {
         shape::reach(self.rows.as_slice())
     }

@@ -1,7 +1,7 @@
-//! Laws of the list of all diagrams of a size: each function does nothing, and its contract is a law. They make no
-//! diagram.
+//! Laws of diagrams, and of the list of all of a size: each function does nothing, and its contract is a law. They make
+//! no diagram.
 
-ghost use Rattle.tv_partition.specs.Laws.{DiagramsAreAll, DiagramsOnce, DiagramsDescend};
+ghost use Rattle.tv_partition.specs.Laws.{DiagramsAreAll, DiagramsOnce, DiagramsDescend, DiagramsAreSets};
 
 /// The diagrams of n cells are exactly those in the list.
 pub fn diagrams_are_all()
@@ -16,4 +16,9 @@ pub fn diagrams_once()
 /// Of two diagrams of the list the greater comes first.
 pub fn diagrams_descend()
     ensures { DiagramsDescend }
+{}
+
+/// Diagrams are exactly the finite sets of cells closed downwards, each that of one diagram alone.
+pub fn diagrams_are_sets()
+    ensures { DiagramsAreSets }
 {}

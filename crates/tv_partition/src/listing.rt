@@ -5,13 +5,13 @@ ghost use Rattle.std.specs.Prelude.{◌≡◌, ◌+◌, ◌<◌, ◌≤◌, [], 
 ghost use Rattle.tv_partition.specs.Rows.{size, diagrams, diagrams_within, IsSmall};
 ghost use Rattle.tv_partition.specs.Within.{CanEnd, behind};
 
-use crate::diagram::Diagram;
+use crate::diagram::{Diagram, MOST_CELLS};
 use std::alloc::{AllocError, Global};
 
-/// All diagrams of that size, at most 24, each once: of two the one with the greater row, where they first differ, comes
+/// All diagrams of that size, at most `MOST_CELLS`, each once: of two the one with the greater row, where they first differ, comes
 /// first.
 pub fn diagrams_of(alloc: Global, size: u32) -> Result<Vec<Diagram>, AllocError>
-    requires { size ≤ 24 }
+    requires { size ≤ MOST_CELLS }
     ensures { IfOk result (λ all. all.items ≡ diagrams size) }
 {
     let mut all = Vec::new(alloc);
@@ -28,7 +28,7 @@ fn push_within(
     top: u32,
     left: u32,
 ) -> Result<(), AllocError>
-    requires small { size front.old.items + left ≤ 24 }
+    requires small { size front.old.items + left ≤ MOST_CELLS }
     requires falls { CanEnd front.old.items top }
     ensures all { OnOk result (all.new.items ≡ all.old.items ++ behind front.old.items (diagrams_within room top left)) }
     ensures front { OnOk result (front.new.items ≡ front.old.items) }
@@ -55,7 +55,7 @@ fn push_after(
     row: u32,
     left: u32,
 ) -> Result<(), AllocError>
-    requires small { size front.old.items + (row + left) ≤ 24 }
+    requires small { size front.old.items + (row + left) ≤ MOST_CELLS }
     requires falls { CanEnd (front.old.items ++ row ∷ []) row }
     ensures all { OnOk result (all.new.items ≡ all.old.items ++ behind (front.old.items ++ row ∷ []) (diagrams_within room row left)) }
     ensures front { OnOk result (front.new.items ≡ front.old.items) }

@@ -4,13 +4,14 @@
 ghost use Rattle.std.specs.Prelude.{◌≡◌, ◌≤◌, ◌↔◌, ◌<◌, ◌^◌, length, slice_index, IsTrue, IfOk};
 ghost use Rattle.tv_partition.specs.Rows.{FallsFrom, IsSmall, size, has, reach, longer, column, flipped};
 
+use crate::diagram::MOST_CELLS;
 use std::alloc::{AllocError, Global};
 
-/// Whether these are the rows of a diagram of at most 24 cells: they fall weakly, and none is 0.
+/// Whether these are the rows of a diagram of at most `MOST_CELLS` cells: they fall weakly, and none is 0.
 pub fn is_small(rows: &[u32]) -> bool
     ensures { IsTrue result ↔ IsSmall rows.now }
 {
-    falls_within(rows, 24, 24)
+    falls_within(rows, MOST_CELLS, MOST_CELLS)
 }
 
 // The recursion is at most `left` + 1 levels deep, since each row takes at least one cell.
@@ -42,7 +43,7 @@ pub fn size(rows: &[u32]) -> u32
 pub fn reach(rows: &[u32]) -> u32
     requires { IsSmall rows.now }
     ensures value { result ≡ reach rows.now }
-    ensures bound { result ≤ 24 }
+    ensures bound { result ≤ MOST_CELLS }
 {
     match rows.first() {
         Some(longest) => (rows.len() as u32).max(*longest),

@@ -33,6 +33,7 @@ fn flips_rows(rt: HostRuntime) -> Result<(), Fail> {
     let d = made(rt.alloc(), &[2, 1, 1])?.ok_or("a diagram")?;
     let flipped = d.flip()?;
     assert_eq!(rt; flipped.rows(), [3u32, 1].as_slice());
+    assert!(rt; d.clone()? == d);
     assert_eq!(rt; d.row(0), 2);
     assert_eq!(rt; d.row(3), 0);
     assert_eq!(rt; d.reach(), 3);

@@ -27,7 +27,7 @@ use Rattle.tv_spec_series.specs.Full.{IsFullRow, IsFull}
 use Rattle.tv_spec_series.specs.ReducedFamilies.{IsDivisor}
 use Rattle.tv_laws_families.specs.Laws.{HasUnit}
 use Rattle.tv_laws_families.proofs.ReducedFamilies.{Reaches, row_given}
-use Rattle.tv_laws_families.proofs.Rows.{IsGiven, quotient_from, given_quotient, given_quotient-low}
+use Rattle.tv_laws_families.proofs.Rows.{IsGiven, quotient_from, given_quotient, given_quotient-low, given_quotient-first}
 use Rattle.tv_laws_families.proofs.Spread.{spread-wide}
 use Rattle.tv_reduced.specs.declared.fault.ReducedFault.{ReducedFault}
 use Rattle.tv_reduced.specs.declared.fault.ReducedFault.TheVariants.{Crowd, Spread, Memory}
@@ -85,12 +85,13 @@ module _ {A : Type 0} {IsValue : A → Type 0} {r : Operations A} (laws : RingLa
       let size : limit < r.size (at r x.series.coefficients wide.place) + total_below (size_term r (at r (series_quotient r x.series b).coefficients) (at r b.coefficients) wide.place) wide.place = rw (quotient_size_is r (at r x.series.coefficients) (at r b.coefficients) (at r (series_quotient r x.series b).coefficients) wide.place, owed_size_is r (at r (series_quotient r x.series b).coefficients) (at r b.coefficients) wide.place) at wide.wide in
       record {
         class = is;
-        number = quotient_size z g (quotient_from z g low) low m;
+        number = quotient_size z g (quotient_from z g low) low (pos 0) m;
         spread = record {
           series = quotient_from z g low;
           reduced = given_quotient laws n z g x.series b given;
           within = omega (arith, ints);
-          size = ap (λ (l : ℤ). quotient_size z g (quotient_from z g low) l m) (sym (given_quotient-low laws n z g x.series b given));
+          size = ap (λ (l : ℤ). quotient_size z g (quotient_from z g low) l (pos 0) m) (sym (given_quotient-low laws n z g x.series b given))
+              ∙ ap (λ (a : ℤ). quotient_size z g (quotient_from z g low) (given_quotient laws n z g x.series b given).low a m) (sym (given_quotient-first laws n z g x.series b given));
         };
         wide = spread-wide laws sizes n z g x.series b given wide.place m wide.exponent wide.within size;
       }

@@ -16,8 +16,8 @@ use Rattle.tv_lattice.specs.Limits.{HasCoordinates}
 use Rattle.tv_laws_edges.specs.Rule.{HasRule, HasEdgeRule}
 use Rattle.tv_spec_plane.specs.Graded.{IsGraded}
 use Rattle.tv_degrees.proofs.Bounds.{normal_a-small, normal_b-small}
-use Rattle.tv_spec_boxes.specs.Assignments.{Rows, Assignment, no_legs, rows_at, legs_of, overlaps_of, assignments}
-use Rattle.tv_spec_boxes.specs.Numbers.{falls_on, low_of, least, lowest}
+use Rattle.tv_spec_boxes.specs.Assignments.{Rows, Assignment, sum_on, no_legs, rows_at, legs_of, overlaps_of, assignments}
+use Rattle.tv_spec_boxes.specs.Numbers.{fall_by, low_of, least, lowest}
 use Rattle.tv_laws_counts.specs.Ways.{IsListed, IsAtMost}
 use Rattle.tv_lemmas.proofs.Members.{all-both, all-onto, all-members, all-everywhere}
 use Rattle.tv_laws_counts.proofs.Degrees.{assignments_listed}
@@ -25,7 +25,7 @@ use Rattle.tv_assignment.specs.Terms.{cells_of}
 use Rattle.tv_assignment.proofs.Bounded.{edge_cost-small, overlap_cost-small, extent-small}
 use Rattle.tv_assignment.proofs.Listed.{listed-few}
 
-falls-bound : (w : Web) (es : List CompactEdge) (a : Assignment) → AllByRecursion HasCoordinates w.points → AllByRecursion (HasRule w) es → AllByRecursion IsSmall a → neg_ℤ (pos (cells_of a * 48001)) ≤ℤ falls_on w es a
+falls-bound : (w : Web) (es : List CompactEdge) (a : Assignment) → AllByRecursion HasCoordinates w.points → AllByRecursion (HasRule w) es → AllByRecursion IsSmall a → neg_ℤ (pos (cells_of a * 48001)) ≤ℤ sum_on (fall_by w) es a
 falls-bound w [] a coordinates rules small = omega (arith, ints)
 falls-bound w (e ∷ es) [] coordinates rules small = omega (arith, ints)
 falls-bound w (e ∷ es) (d ∷ a) coordinates rules small =

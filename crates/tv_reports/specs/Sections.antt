@@ -19,7 +19,9 @@ use Rattle.tv_spec_series.specs.Families.{Row, Family, coefficient, IsFamily}
 
 abbrev pub terms_from : ℤ → List ℤ → List Term
 terms_from low [] = []
-terms_from low (x ∷ xs) = if is_zero x then terms_from (low +ℤ pos 1) xs else record { exponent = low; coefficient = x } ∷ terms_from (low +ℤ pos 1) xs
+terms_from low (x ∷ xs) =
+    if is_zero x then terms_from (low +ℤ pos 1) xs
+    else record { exponent = low; coefficient = x } ∷ terms_from (low +ℤ pos 1) xs
 
 abbrev pub terms_of : Terms ℤ → List Term
 terms_of t = terms_from t.low t.coefficients

@@ -12,8 +12,10 @@ use std::alloc::{AllocError, Global};
 use tv_degrees::grade::GradedWeb;
 use tv_spec_plane::records::{CompactEdge, OuterEdge};
 
-/// The counts of points, triangles and edges, the compact edges with their normal degrees and degrees, and the open edges.
-/// It errs only for want of memory.
+/// The report of a check, in lines that end in LF: `report check`; the counts of points, triangles, compact and open edges; a
+/// line for each compact edge in the web's order, with its two points, the two opposite ones, the two normal degrees and the
+/// degree; a line for each open edge in the web's order, with its two points and its corner; and `end`. It errs only for
+/// want of memory.
 pub fn print_check(alloc: Global, web: &GradedWeb) -> Result<Vec<u8>, AllocError>
     ensures { IfOk result (λ v. v.items ≡ check_text web.now) }
 {
@@ -50,7 +52,8 @@ fn put_count(text: &mut String, word: &str, count: usize) -> Result<(), AllocErr
 }
 
 fn put_edges(text: &mut String, web: &GradedWeb) -> Result<(), AllocError>
-    ensures { OnOk result (string_bytes text.new ≡ string_bytes text.old ++ flat_map line_text (map (edge_line web.now) (compact web.now))) }
+    ensures { OnOk result (string_bytes text.new ≡
+        string_bytes text.old ++ flat_map line_text (map (edge_line web.now) (compact web.now))) }
 {
     for e in 0..web.compact().len() as u32 {
         put_edge(text, web, e)?;
@@ -60,7 +63,8 @@ fn put_edges(text: &mut String, web: &GradedWeb) -> Result<(), AllocError>
 
 fn put_edge(text: &mut String, web: &GradedWeb, e: u32) -> Result<(), AllocError>
     requires { e < length (compact web.now) }
-    ensures { OnOk result (string_bytes text.new ≡ string_bytes text.old ++ line_text (edge_line web.now (edge_at web.now e))) }
+    ensures { OnOk result (string_bytes text.new ≡
+        string_bytes text.old ++ line_text (edge_line web.now (edge_at web.now e))) }
 {
     let (first, second) = web.normals(e);
     put_edge_words(
@@ -79,7 +83,8 @@ fn put_edge_words(
     second: i64,
     degree: i64,
 ) -> Result<(), AllocError>
-    ensures { OnOk result (string_bytes text.new ≡ string_bytes text.old ++ line_text (edge_words edge first second degree)) }
+    ensures { OnOk result (string_bytes text.new ≡
+        string_bytes text.old ++ line_text (edge_words edge first second degree)) }
 {
     let CompactEdge { a, b, c, d, .. } = edge;
     writeln!(

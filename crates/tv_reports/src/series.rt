@@ -16,14 +16,16 @@ use tv_laurent::{Coefficient, Series};
 use tv_ring::Whole;
 use tv_text::series::{Kind, Section, Term, print_sections};
 
-/// The heights, degree and last exponent of the family, and a section for each class in their order. It errs only for want
-/// of memory.
+/// The report of a family, in lines that end in LF: `report series` and the kind; the heights, the degree and the last
+/// exponent; for each class, in the family's order, a line with its degree and entries, and then a line for each exponent up
+/// to the last whose coefficient is not 0, rising, with that coefficient; and `end`. It errs only for want of memory.
 pub fn print_series(
     alloc: Global,
     kind: Kind,
     series: &Graded<Whole>,
 ) -> Result<Vec<u8>, AllocError>
-    ensures text { IfOk result (λ v. v.items ≡ series_text (kind_word kind) series.now.heights series.now.top series.now.upto (sections_of series.now)) }
+    ensures text { let f = series.now in IfOk result (λ v. v.items ≡
+        series_text (kind_word kind) f.heights f.top f.upto (sections_of f)) }
 
     // A whole coefficient is at most 2^127 - 1 in absolute value.
     ensures small { IfOk result (λ _. AllByRecursion IsSmall (sections_of series.now)) }
@@ -57,7 +59,8 @@ fn push_section(
     k: usize,
 ) -> Result<(), AllocError>
     requires { k < length series.now.rows }
-    ensures value { OnOk result ((row : Row ℤ) × (slice_get series.now.rows k ≡ Some row) × (sections.new.items ≡ sections.old.items ++ section_of series.now.heights row ∷ [])) }
+    ensures value { OnOk result ((row : Row ℤ) × (slice_get series.now.rows k ≡ Some row)
+        × (sections.new.items ≡ sections.old.items ++ section_of series.now.heights row ∷ [])) }
     ensures small { OnOk result (AllByRecursion IsSmall sections.old.items → AllByRecursion IsSmall sections.new.items) }
 {
     if let Some(entry) = series.at(k) {
@@ -96,7 +99,8 @@ fn terms_of(alloc: Global, series: &Series<Whole>) -> Result<Vec<Term>, AllocErr
 fn push_coefficient(terms: &mut Vec<Term>, series: &Series<Whole>, n: i64) -> Result<(), AllocError>
     requires low { series.now.low ≤ℤ n }
     requires known { n ≤ℤ upto series.now }
-    ensures value { OnOk result (terms.new.items ≡ terms.old.items ++ terms_from n (at wholes series.now.coefficients (above series.now.low n) ∷ [])) }
+    ensures value { OnOk result (terms.new.items ≡
+        terms.old.items ++ terms_from n (at wholes series.now.coefficients (above series.now.low n) ∷ [])) }
     ensures small { OnOk result (AllByRecursion IsSmallTerm terms.old.items → AllByRecursion IsSmallTerm terms.new.items) }
 {
     if let Coefficient::Is(coefficient) = series.coefficient(n) {

@@ -1,7 +1,6 @@
 //! The check of local P^2, as it is known from outside, and a made-up family in each kind.
 
 use crate::check::print_check;
-use crate::laws::sections_tell_series;
 use crate::series::print_series;
 use std::alloc::Global;
 use std::test::Fail;
@@ -124,7 +123,6 @@ fn made_up(alloc: Global) -> Result<Graded<Whole>, Fail> {
 
 #[test]
 fn prints_a_family(rt: HostRuntime) -> Result<(), Fail> {
-    sections_tell_series();
     let family = made_up(rt.alloc())?;
     for (kind, title) in [
         (Kind::Full, "report series full\n"),

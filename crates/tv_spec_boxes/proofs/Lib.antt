@@ -1,6 +1,6 @@
 mod Values
+pub mod Sublists
 mod CountValues
-pub mod Sums
 pub mod Vectors
 pub mod OneCornerWeb
 pub mod OneCornerCount

@@ -1,10 +1,11 @@
 -- The signed count of a web of one triangle is the count of its corner, with the sign of the exponent.
-use Rattle.std.proofs.Common.{◌≡◌, ℕ, ◌+◌, ◌-◌, ◌%◌, ◌<◌, ℤ, pos, negsuc, ◌+ℤ◌, List, [], ◌∷◌, ◌++◌, map, length, cond, Bool, true, false, refl, ap, ◌∙◌, arith, zero-add, nat_eq}
+use Rattle.std.proofs.Common.{◌≡◌, ℕ, ◌+◌, ◌-◌, ◌%◌, ◌<◌, ℤ, pos, negsuc, ◌+ℤ◌, List, [], ◌∷◌, ◌++◌, map, length, cond, Bool, true, false, refl, ap, ◌∙◌, arith, zero-add, append-nil, nat_eq}
 use Rattle.std.proofs.lemmas.Int.{ints}
 use Rattle.std.proofs.lemmas.Bool.Decides.{nat_tests}
 use Rattle.std.specs.List.{flat_map, AllByRecursion}
 use Rattle.std.proofs.lemmas.List.{length-map}
 use Rattle.std.proofs.lemmas.List.Concat.{flat_map_single}
+use Rattle.tv_lemmas.specs.Naturals.{as_natural}
 use Rattle.tv_lemmas.proofs.Members.{all-map, all-filter}
 use Rattle.tv_spec_plane.specs.Web.{Web, sign, degree_of}
 use Rattle.tv_cells.specs.declared.cell.Cell.{Cell}
@@ -12,11 +13,14 @@ use Rattle.tv_cells.specs.declared.legs.Legs.{Legs}
 use Rattle.tv_cells.specs.Cells.{cube, sublists_of}
 use Rattle.tv_cells.specs.Costs.{overlap_cost, overlaps}
 use Rattle.tv_cells.specs.Extras.{is_extras, extent, count}
-use Rattle.tv_spec_boxes.specs.Assignments.{all_legs, no_legs, zeros, assignments, choices, assignments_of, edge_costs, edge_twist, overlaps_of, weight}
-use Rattle.tv_spec_boxes.specs.Configurations.{Configuration, extras_of, fillings, configuration, configurations, configuration_sign, boxes_left, chi_of, total, signed_count}
+use Rattle.tv_spec_boxes.specs.Assignments.{all_legs, no_legs, zeros, assignments, choices, assignments_of, edge_costs, edge_twist, overlaps_of}
+use Rattle.tv_spec_boxes.specs.Configurations.{Configuration, extras_of, fillings, configuration, configurations, configuration_sign, boxes_left, chi_of, signed_count}
 use Rattle.tv_spec_boxes.specs.OneCorner.{IsOneCorner, empty_legs, with_sign, corner_coefficient}
 use Rattle.tv_spec_boxes.proofs.OneCornerWeb.{IsBare, one_corner_bare}
-use Rattle.tv_spec_boxes.proofs.Sums.{flat_map-none, flat_map-last, sublists_of-length, total-alike, total-append-nil}
+use Rattle.tv_lemmas.specs.Sums.{total}
+use Rattle.tv_lemmas.proofs.Sums.{total-alike}
+use Rattle.tv_lemmas.proofs.Lists.{flat_map-none, flat_map-last}
+use Rattle.tv_spec_boxes.proofs.Sublists.{sublists_of-length}
 
 -- the boxes of one corner alone
 abbrev pub alone : List Cell → List (List Cell)
@@ -48,7 +52,7 @@ unfolding assignments choices
 only_assignment w h d = rw h.edges refl
 
 pub only_of_class : (w : Web) → IsBare w → assignments_of w (zeros 3) ≡ [] ∷ []
-only_of_class w h = let e = only_assignment w h (weight (degree_of w.heights (zeros 3))) in rw (e, h.edges, h.points) refl
+only_of_class w h = let e = only_assignment w h (as_natural (degree_of w.heights (zeros 3))) in rw (e, h.edges, h.points) refl
 
 -- the sign at a corner of n boxes
 abbrev sign_at : ℕ → ℤ
@@ -87,12 +91,12 @@ total-with_sign f false xs h = let e = total-alike f (negsuc 0) xs h in omega (a
 pub one_corner_count : (w : Web) → IsOneCorner w → (n : ℕ) → signed_count w (no_legs w) (zeros 3) (pos n) ≡ with_sign (nat_eq (n % 2) 0) (count empty_legs n)
 unfolding signed_count count
 one_corner_count w one n = let h = one_corner_bare w one in
-    rw (list_of w h n) (total-append-nil (configuration_sign w (no_legs w)) (map (configuration []) (map alone (extras_of empty_legs n n)))
+    rw (list_of w h n) (ap (total (configuration_sign w (no_legs w))) (append-nil (map (configuration []) (map alone (extras_of empty_legs n n))))
     ∙ (total-with_sign (configuration_sign w (no_legs w)) (nat_eq (n % 2) 0) _ (signs w h n)
     ∙ ap (with_sign (nat_eq (n % 2) 0)) (length-map (map alone (extras_of empty_legs n n)) (configuration []) ∙ length-map (extras_of empty_legs n n) alone)))
 
 pub one_corner_below : (w : Web) → IsOneCorner w → (n : ℕ) → signed_count w (no_legs w) (zeros 3) (negsuc n) ≡ pos 0
-unfolding signed_count total
+unfolding signed_count
 one_corner_below w one n = let h = one_corner_bare w one in rw (only_of_class w h, left w h (negsuc n)) refl
 
 pub one_corner_coefficient : (w : Web) → IsOneCorner w → (n : ℤ) → signed_count w (no_legs w) (zeros 3) n ≡ corner_coefficient n

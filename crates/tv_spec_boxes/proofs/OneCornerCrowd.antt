@@ -8,11 +8,11 @@ use Rattle.tv_cells.specs.Costs.{overlap_cost, overlaps}
 use Rattle.tv_cells.specs.Cells.{cube}
 use Rattle.tv_spec_boxes.specs.Assignments.{no_legs, zeros}
 use Rattle.tv_spec_boxes.specs.Configurations.{fillings}
-use Rattle.tv_spec_boxes.specs.Numbers.{least, lowest, box_bound, crowd_on, crowd, sum_of}
+use Rattle.tv_spec_boxes.specs.Numbers.{least, lowest, box_bound, crowd_on, crowd}
 use Rattle.tv_spec_boxes.specs.OneCorner.{IsOneCorner, empty_legs}
 use Rattle.tv_spec_boxes.proofs.OneCornerWeb.{IsBare, one_corner_bare}
 use Rattle.tv_spec_boxes.proofs.OneCornerCount.{only_assignment, only_of_class, fillings-one, alone}
-use Rattle.tv_spec_boxes.proofs.Sums.{sum_of-term}
+use Rattle.tv_lemmas.proofs.Sums.{sum_of-term}
 
 lowest_is : (w : Web) → IsBare w → (d : ℕ) → lowest w (no_legs w) d ≡ pos 0
 unfolding lowest least overlap_cost overlaps cube
@@ -31,7 +31,7 @@ unfolding count
 count_is i = sym (ap length (fillings-one empty_legs i) ∙ length-map _ alone)
 
 crowd_is : (w : Web) → IsBare w → (n : ℕ) → crowd w (no_legs w) 0 (pos n) (zeros 3) ≡ crowd_on (empty_legs ∷ []) n + 0
-unfolding crowd sum_of
+unfolding crowd
 crowd_is w h n = rw (only_of_class w h, degree_zero w.heights 3, lowest_is w h 0, bound_is n) (ap (λ ls. crowd_on ls n + 0) h.legs)
 
 pub one_corner_crowd : (w : Web) → IsOneCorner w → (n i : ℕ) → i ≤ n → count empty_legs i ≤ crowd w (no_legs w) 0 (pos n) (zeros 3)

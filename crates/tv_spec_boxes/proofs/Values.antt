@@ -7,8 +7,8 @@ use Rattle.tv_partition.specs.Rows.{diagrams, diagrams_within}
 use Rattle.tv_cells.specs.Cells.{cube, sublists_of}
 use Rattle.tv_cells.specs.Costs.{row_cost, rows_cost, overlap_cost, overlaps}
 use Rattle.tv_spec_boxes.specs.Assignments.{no_legs, class_of, edge_costs, edge_twist, assignments, choices}
-use Rattle.tv_spec_boxes.specs.Configurations.{signed_count, fillings, total}
-use Rattle.tv_spec_boxes.specs.Numbers.{lowest, least, crowd, sum_of}
+use Rattle.tv_spec_boxes.specs.Configurations.{signed_count, fillings}
+use Rattle.tv_spec_boxes.specs.Numbers.{lowest, least, crowd}
 
 -- one cell on the conifold's edge: its class, the cost 1 and the twist -1
 conifold_cell_class : class_of conifold ((1 ∷ []) ∷ []) ≡ negsuc 0 ∷ pos 1 ∷ negsuc 0 ∷ pos 1 ∷ []
@@ -38,22 +38,22 @@ local_p2_cells_twist = refl
 
 -- one corner: 1, -1, 3, -6
 one_corner_counts : map (signed_count one_corner (no_legs one_corner) (pos 0 ∷ pos 0 ∷ pos 0 ∷ [])) (negsuc 0 ∷ pos 0 ∷ pos 1 ∷ pos 2 ∷ pos 3 ∷ []) ≡ pos 0 ∷ pos 1 ∷ negsuc 0 ∷ pos 3 ∷ negsuc 5 ∷ []
-unfolding one_corner signed_count fillings total assignments choices compact outer edge_ref edge_ratio turn diagrams diagrams_within cube sublists_of row_cost rows_cost overlap_cost overlaps
+unfolding one_corner signed_count fillings assignments choices compact outer edge_ref edge_ratio turn diagrams diagrams_within cube sublists_of row_cost rows_cost overlap_cost overlaps
 one_corner_counts = refl
 
 -- the conifold in degree 1: 1, -4, 14 from exponent 1
 conifold_counts : map (signed_count conifold (no_legs conifold) (negsuc 0 ∷ pos 1 ∷ negsuc 0 ∷ pos 1 ∷ [])) (pos 0 ∷ pos 1 ∷ pos 2 ∷ pos 3 ∷ []) ≡ pos 0 ∷ pos 1 ∷ negsuc 3 ∷ pos 14 ∷ []
-unfolding conifold signed_count fillings total assignments choices compact outer edge_ref edge_ratio turn diagrams diagrams_within cube sublists_of row_cost rows_cost overlap_cost overlaps
+unfolding conifold signed_count fillings assignments choices compact outer edge_ref edge_ratio turn diagrams diagrams_within cube sublists_of row_cost rows_cost overlap_cost overlaps
 conifold_counts = refl
 
 -- local P^2 in degree 1: 3, -15 from exponent 1
 local_p2_counts : map (signed_count local_p2 (no_legs local_p2) (negsuc 2 ∷ pos 1 ∷ pos 1 ∷ pos 1 ∷ [])) (pos 0 ∷ pos 1 ∷ pos 2 ∷ []) ≡ pos 0 ∷ pos 3 ∷ negsuc 14 ∷ []
-unfolding local_p2 signed_count fillings total assignments choices compact outer edge_ref edge_ratio turn diagrams diagrams_within cube sublists_of row_cost rows_cost overlap_cost overlaps
+unfolding local_p2 signed_count fillings assignments choices compact outer edge_ref edge_ratio turn diagrams diagrams_within cube sublists_of row_cost rows_cost overlap_cost overlaps
 local_p2_counts = refl
 
 -- in degree 3 ten configurations without boxes stand at exponent 0, each of sign -1
 local_p2_third : signed_count local_p2 (no_legs local_p2) (negsuc 8 ∷ pos 3 ∷ pos 3 ∷ pos 3 ∷ []) (pos 0) ≡ negsuc 9
-unfolding local_p2 signed_count fillings total assignments choices compact outer edge_ref edge_ratio turn diagrams diagrams_within cube sublists_of row_cost rows_cost overlap_cost overlaps
+unfolding local_p2 signed_count fillings assignments choices compact outer edge_ref edge_ratio turn diagrams diagrams_within cube sublists_of row_cost rows_cost overlap_cost overlaps
 local_p2_third = refl
 
 -- the lowest exponents of local P^2 by degree
@@ -63,5 +63,5 @@ local_p2_lowest = refl
 
 -- one corner through exponent 3 has 1 + 1 + 3 + 6 configurations of class zero
 one_corner_crowd : crowd one_corner (no_legs one_corner) 0 (pos 3) (pos 0 ∷ pos 0 ∷ pos 0 ∷ []) ≡ 11
-unfolding one_corner crowd sum_of lowest least fillings assignments choices compact outer edge_ref edge_ratio turn diagrams diagrams_within cube sublists_of row_cost rows_cost overlap_cost overlaps
+unfolding one_corner crowd lowest least fillings assignments choices compact outer edge_ref edge_ratio turn diagrams diagrams_within cube sublists_of row_cost rows_cost overlap_cost overlaps
 one_corner_crowd = refl

@@ -9,22 +9,25 @@
 -- all_legs w a fixed == the legs of each corner, in the order of corners
 -- zeros n            == n zeros
 -- plus, times        == sum of two vectors, and whole multiple of one
--- class_on w es a    == the sum over these edges of size times class
--- class_of w a       == the sum over the compact edges of size times class
--- costs_on, edge_costs w a == the sum over the edges, over the compact edges, of the edge cost of the diagram
--- twist_on, edge_twist w a == the sum over the edges, over the compact edges, of the normal degree at a times the size
+-- over_edges add none f es a == the sum of f over the edges with their diagrams, by that addition and its zero
+-- sum_on f es a      == so of whole numbers
+-- class_by w e d     == the class of an edge with its diagram: size times class
+-- class_on, class_of w a == the sum over these edges, over the compact edges, of their classes
+-- cost_by, edge_costs w a == the edge cost of the diagram on an edge, and the sum over the compact edges
+-- twist_by, edge_twist w a == the normal degree at a times the size, and the sum over the compact edges
 -- overlaps_of legs   == the sum of the overlap costs of the corners
--- weight g           == a positive degree as a natural number; 0 where it is not positive
 -- choices gs d       == one diagram for each degree, sizes times degrees adding up to at most d; of two diagrams the one of
 --                       fewer cells first, then the one with the greater row first
 -- assignments w d    == the assignments of degree at most d, each once, in order, by the diagrams in the order of edges:
 --                       of a web in which every compact edge has a degree of at least 1
 -- same_vector u v    == the two vectors are equal
 -- assignments_of w v == the assignments of class v
-use Rattle.std.specs.Prelude.{ℕ, zero, suc, ◌+◌, ◌-◌, ◌*◌, ℤ, pos, negsuc, ◌+ℤ◌, ◌*ℤ◌, List, [], ◌∷◌, map, filter, length, slice_index_or, Bool, nat_le}
+use Rattle.std.specs.Prelude.{ℕ, zero, suc, ◌-◌, ◌*◌, ℤ, pos, ◌+ℤ◌, ◌*ℤ◌, List, [], ◌∷◌, map, filter, length, slice_index_or, Bool, nat_le}
 use Rattle.std.specs.Ordering.{int_eq}
 use Rattle.std.specs.Cmp.Lexicographic.{pointwise}
 use Rattle.std.specs.List.{flat_map}
+use Rattle.tv_lemmas.specs.Naturals.{as_natural}
+use Rattle.tv_lemmas.specs.Sums.{sum_of}
 use Rattle.tv_spec_plane.specs.declared.records.CompactEdge.{CompactEdge}
 use Rattle.tv_spec_plane.specs.declared.records.OuterEdge.{OuterEdge}
 use Rattle.tv_spec_plane.specs.declared.records.EdgeRef.{EdgeRef}
@@ -66,38 +69,38 @@ plus (x ∷ u) (y ∷ v) = (x +ℤ y) ∷ plus u v
 abbrev pub times : ℕ → List ℤ → List ℤ
 times n v = map (λ x. pos n *ℤ x) v
 
+-- one fold for sums of numbers and of vectors, each with its own addition and zero
+abbrev pub over_edges : {B : Type 0} → (B → B → B) → B → (CompactEdge → Rows → B) → List CompactEdge → Assignment → B
+over_edges add none f [] a = none
+over_edges add none f (e ∷ es) [] = none
+over_edges add none f (e ∷ es) (d ∷ a) = add (f e d) (over_edges add none f es a)
+
+abbrev pub sum_on : (CompactEdge → Rows → ℤ) → List CompactEdge → Assignment → ℤ
+sum_on f es a = over_edges ◌+ℤ◌ (pos 0) f es a
+
+abbrev pub class_by : Web → CompactEdge → Rows → List ℤ
+class_by w e d = times (size d) (edge_class w e)
+
 abbrev pub class_on : Web → List CompactEdge → Assignment → List ℤ
-class_on w [] a = zeros (length w.points)
-class_on w (e ∷ es) [] = zeros (length w.points)
-class_on w (e ∷ es) (d ∷ a) = plus (times (size d) (edge_class w e)) (class_on w es a)
+class_on w es a = over_edges plus (zeros (length w.points)) (class_by w) es a
 
 abbrev pub class_of : Web → Assignment → List ℤ
 class_of w a = class_on w (compact w) a
 
-abbrev pub costs_on : Web → List CompactEdge → Assignment → ℤ
-costs_on w [] a = pos 0
-costs_on w (e ∷ es) [] = pos 0
-costs_on w (e ∷ es) (d ∷ a) = edge_cost d (normal_a w e) (normal_b w e) +ℤ costs_on w es a
+abbrev pub cost_by : Web → CompactEdge → Rows → ℤ
+cost_by w e d = edge_cost d (normal_a w e) (normal_b w e)
 
 abbrev pub edge_costs : Web → Assignment → ℤ
-edge_costs w a = costs_on w (compact w) a
+edge_costs w a = sum_on (cost_by w) (compact w) a
 
-abbrev pub twist_on : Web → List CompactEdge → Assignment → ℤ
-twist_on w [] a = pos 0
-twist_on w (e ∷ es) [] = pos 0
-twist_on w (e ∷ es) (d ∷ a) = (normal_a w e *ℤ pos (size d)) +ℤ twist_on w es a
+abbrev pub twist_by : Web → CompactEdge → Rows → ℤ
+twist_by w e d = normal_a w e *ℤ pos (size d)
 
 abbrev pub edge_twist : Web → Assignment → ℤ
-edge_twist w a = twist_on w (compact w) a
+edge_twist w a = sum_on (twist_by w) (compact w) a
 
 abbrev pub overlaps_of : List Legs → ℕ
-overlaps_of [] = 0
-overlaps_of (legs ∷ rest) = overlap_cost legs + overlaps_of rest
-
--- a positive degree as a natural number
-abbrev pub weight : ℤ → ℕ
-weight (pos n) = n
-weight (negsuc n) = 0
+overlaps_of legs = sum_of overlap_cost legs
 
 -- one diagram for each degree, with sizes times degrees adding up to at most d
 unfoldable pub choices : List ℕ → ℕ → List Assignment
@@ -105,10 +108,10 @@ choices [] d = [] ∷ []
 choices (g ∷ gs) d = flat_map (λ n. flat_map (λ rows. map (λ a. rows ∷ a) (choices gs (d - (n * g)))) (diagrams n)) (filter (λ n. nat_le (n * g) d) (below (suc d)))
 
 unfoldable pub assignments : Web → ℕ → List Assignment
-assignments w d = choices (map (λ e. weight (edge_degree w e)) (compact w)) d
+assignments w d = choices (map (λ e. as_natural (edge_degree w e)) (compact w)) d
 
 abbrev pub same_vector : List ℤ → List ℤ → Bool
 same_vector = pointwise int_eq
 
 abbrev pub assignments_of : Web → List ℤ → List Assignment
-assignments_of w v = filter (λ a. same_vector (class_of w a) v) (assignments w (weight (degree_of w.heights v)))
+assignments_of w v = filter (λ a. same_vector (class_of w a) v) (assignments w (as_natural (degree_of w.heights v)))

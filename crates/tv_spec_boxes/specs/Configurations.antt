@@ -10,13 +10,13 @@
 -- configurations_on w fixed a n == the configurations with that assignment and Euler characteristic
 -- configurations w fixed v n == the configurations of class v and Euler characteristic n, each once, in order: by the
 --                        diagrams in the order of edges, then by the extras in the order of corners
--- boxes_of cs         == the number of boxes
+-- boxes_of sets       == the number of boxes
 -- chi_of w fixed c    == the Euler characteristic: edge costs, and boxes, less the overlap costs
 -- configuration_sign w fixed c == (-1)^(chi + s), with s the sum of the normal degree at a times the size
--- total f xs          == the sum of f over the list
 -- signed_count w fixed v n == the sum of the signs over the configurations of class v and Euler characteristic n
 use Rattle.std.specs.Prelude.{ℕ, suc, ◌+◌, ◌-◌, ℤ, pos, negsuc, ◌+ℤ◌, ◌-ℤ◌, List, [], ◌∷◌, map, filter, length, cond, nat_eq}
 use Rattle.std.specs.List.{flat_map}
+use Rattle.tv_lemmas.specs.Sums.{total, sum_of}
 use Rattle.tv_spec_plane.specs.Web.{Web, below, sign}
 use Rattle.tv_cells.specs.declared.cell.Cell.{Cell}
 use Rattle.tv_cells.specs.declared.legs.Legs.{Legs}
@@ -53,18 +53,13 @@ abbrev pub configurations : Web → List Rows → List ℤ → ℤ → List Conf
 configurations w fixed v n = flat_map (λ a. configurations_on w fixed a n) (assignments_of w v)
 
 abbrev pub boxes_of : List (List Cell) → ℕ
-boxes_of [] = 0
-boxes_of (cells ∷ rest) = length cells + boxes_of rest
+boxes_of sets = sum_of length sets
 
 abbrev pub chi_of : Web → List Rows → Configuration → ℤ
 chi_of w fixed c = (edge_costs w c.diagrams +ℤ pos (boxes_of c.extras)) -ℤ pos (overlaps_of (all_legs w c.diagrams fixed))
 
 abbrev pub configuration_sign : Web → List Rows → Configuration → ℤ
 configuration_sign w fixed c = sign (chi_of w fixed c +ℤ edge_twist w c.diagrams)
-
-unfoldable pub total : {A : Type 0} → (A → ℤ) → List A → ℤ
-total f [] = pos 0
-total f (x ∷ xs) = f x +ℤ total f xs
 
 unfoldable pub signed_count : Web → List Rows → List ℤ → ℤ → ℤ
 signed_count w fixed v n = total (configuration_sign w fixed) (configurations w fixed v n)

@@ -1,6 +1,7 @@
 pub mod Assignments
 pub mod Configurations
 pub mod Classes
+pub mod Relations
 pub mod Numbers
 pub mod OneCorner
 pub use Rattle.tv_spec_plane.specs.Plane

@@ -7,7 +7,7 @@ use Rattle.tv_partition.specs.Rows.{diagrams, diagrams_within}
 use Rattle.tv_cells.specs.Cells.{cell, cube, sublists_of}
 use Rattle.tv_cells.specs.Costs.{row_cost, rows_cost, overlap_cost, overlaps}
 use Rattle.tv_spec_boxes.specs.Assignments.{assignments, choices}
-use Rattle.tv_spec_boxes.specs.Configurations.{configuration, fillings, total}
+use Rattle.tv_spec_boxes.specs.Configurations.{configuration, fillings}
 use Rattle.tv_spec_partial.specs.Partial.{pending, partial_chi, partial_count}
 
 -- after two corners the edge between them is pending no more
@@ -17,22 +17,22 @@ plane_pending = refl
 
 -- no diagram stands on the third edge, so without one on the first two the line has no configuration
 plane_line : map (partial_count local_p2 1 ([] ∷ [] ∷ []) (negsuc 2 ∷ pos 1 ∷ pos 1 ∷ pos 1 ∷ [])) (pos 0 ∷ pos 1 ∷ pos 2 ∷ []) ≡ pos 0 ∷ pos 0 ∷ pos 0 ∷ []
-unfolding local_p2 partial_count fillings total assignments choices compact outer edge_ref edge_ratio turn diagrams diagrams_within cube sublists_of row_cost rows_cost overlap_cost overlaps
+unfolding local_p2 partial_count fillings assignments choices compact outer edge_ref edge_ratio turn diagrams diagrams_within cube sublists_of row_cost rows_cost overlap_cost overlaps
 plane_line = refl
 
 -- with one cell on the first edge it has 1, -2 from exponent 1
 plane_cell : map (partial_count local_p2 1 ((1 ∷ []) ∷ [] ∷ []) (negsuc 2 ∷ pos 1 ∷ pos 1 ∷ pos 1 ∷ [])) (pos 0 ∷ pos 1 ∷ pos 2 ∷ []) ≡ pos 0 ∷ pos 1 ∷ negsuc 1 ∷ []
-unfolding local_p2 partial_count fillings total assignments choices compact outer edge_ref edge_ratio turn diagrams diagrams_within cube sublists_of row_cost rows_cost overlap_cost overlaps
+unfolding local_p2 partial_count fillings assignments choices compact outer edge_ref edge_ratio turn diagrams diagrams_within cube sublists_of row_cost rows_cost overlap_cost overlaps
 plane_cell = refl
 
 -- a choice of two cells is another one than one cell
 plane_other_choice : partial_count local_p2 1 ((2 ∷ []) ∷ [] ∷ []) (negsuc 2 ∷ pos 1 ∷ pos 1 ∷ pos 1 ∷ []) (pos 1) ≡ pos 0
-unfolding local_p2 partial_count fillings total assignments choices compact outer edge_ref edge_ratio turn diagrams diagrams_within cube sublists_of row_cost rows_cost overlap_cost overlaps
+unfolding local_p2 partial_count fillings assignments choices compact outer edge_ref edge_ratio turn diagrams diagrams_within cube sublists_of row_cost rows_cost overlap_cost overlaps
 plane_other_choice = refl
 
 -- with one cell on each, the two legs share a cell of the corner: -1, 2 from exponent 2 - 1
 plane_two_cells : map (partial_count local_p2 1 ((1 ∷ []) ∷ (1 ∷ []) ∷ []) (negsuc 5 ∷ pos 2 ∷ pos 2 ∷ pos 2 ∷ [])) (pos 0 ∷ pos 1 ∷ pos 2 ∷ []) ≡ pos 0 ∷ negsuc 0 ∷ pos 2 ∷ []
-unfolding local_p2 partial_count fillings total assignments choices compact outer edge_ref edge_ratio turn diagrams diagrams_within cube sublists_of row_cost rows_cost overlap_cost overlaps
+unfolding local_p2 partial_count fillings assignments choices compact outer edge_ref edge_ratio turn diagrams diagrams_within cube sublists_of row_cost rows_cost overlap_cost overlaps
 plane_two_cells = refl
 
 plane_two_cells_chi : partial_chi local_p2 1 (configuration ((1 ∷ []) ∷ (1 ∷ []) ∷ [] ∷ []) ((cell 1 0 0 ∷ []) ∷ [])) ≡ pos 2
@@ -41,7 +41,7 @@ plane_two_cells_chi = refl
 
 -- after two corners the cell on the edge between them is no choice: 1, -4
 plane_inner_cell : map (partial_count local_p2 2 ([] ∷ [] ∷ []) (negsuc 2 ∷ pos 1 ∷ pos 1 ∷ pos 1 ∷ [])) (pos 0 ∷ pos 1 ∷ pos 2 ∷ []) ≡ pos 0 ∷ pos 1 ∷ negsuc 3 ∷ []
-unfolding local_p2 partial_count fillings total assignments choices compact outer edge_ref edge_ratio turn diagrams diagrams_within cube sublists_of row_cost rows_cost overlap_cost overlaps
+unfolding local_p2 partial_count fillings assignments choices compact outer edge_ref edge_ratio turn diagrams diagrams_within cube sublists_of row_cost rows_cost overlap_cost overlaps
 plane_inner_cell = refl
 
 -- the third edge, whose first corner comes last, is met by the second: 1, -3
@@ -56,5 +56,5 @@ plane_none = refl
 
 -- after all three it has its signed counts
 plane_whole : map (partial_count local_p2 3 [] (negsuc 2 ∷ pos 1 ∷ pos 1 ∷ pos 1 ∷ [])) (pos 0 ∷ pos 1 ∷ pos 2 ∷ []) ≡ pos 0 ∷ pos 3 ∷ negsuc 14 ∷ []
-unfolding local_p2 partial_count fillings total assignments choices compact outer edge_ref edge_ratio turn diagrams diagrams_within cube sublists_of row_cost rows_cost overlap_cost overlaps
+unfolding local_p2 partial_count fillings assignments choices compact outer edge_ref edge_ratio turn diagrams diagrams_within cube sublists_of row_cost rows_cost overlap_cost overlaps
 plane_whole = refl

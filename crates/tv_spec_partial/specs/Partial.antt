@@ -19,11 +19,12 @@
 use Rattle.std.specs.Prelude.{ℕ, ℤ, pos, ◌+ℤ◌, ◌-ℤ◌, List, [], ◌∷◌, map, filter, length, take, slice_index_or, Bool, true, cond, not, ◌&&◌, ◌||◌, nat_eq, nat_lt}
 use Rattle.std.specs.List.{flat_map}
 use Rattle.std.specs.Cmp.Lexicographic.{pointwise}
+use Rattle.tv_lemmas.specs.Sums.{total}
 use Rattle.tv_spec_plane.specs.declared.records.CompactEdge.{CompactEdge}
 use Rattle.tv_spec_plane.specs.Web.{Web, compact, below, sign}
 use Rattle.tv_cells.specs.declared.legs.Legs.{Legs}
 use Rattle.tv_spec_boxes.specs.Assignments.{Rows, Assignment, no_legs, all_legs, assignments_of, edge_costs, edge_twist, overlaps_of}
-use Rattle.tv_spec_boxes.specs.Configurations.{Configuration, configuration, fillings_of, boxes_of, total}
+use Rattle.tv_spec_boxes.specs.Configurations.{Configuration, configuration, fillings_of, boxes_of}
 
 abbrev pub is_met : ℕ → CompactEdge → Bool
 is_met t e = nat_lt e.corner_c t || nat_lt e.corner_d t

@@ -2,4 +2,5 @@
 //! its edges, corners, classes and degrees are. Nothing is computed here for a caller; the crates above do that.
 #![tactic(auto)]
 
+pub mod limits;
 pub mod records;

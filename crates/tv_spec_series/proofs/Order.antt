@@ -1,5 +1,5 @@
 -- The order of classes: what its tests tell, and that it is strict, transitive and total among vectors of one length.
-use Rattle.std.proofs.Common.{◌≡◌, ℤ, ◌<ℤ◌, int_lt, Bool, true, false, ◌&&◌, ◌||◌, List, [], ◌∷◌, length, refl, sym, ◌∙◌, ap, ◌⊎◌, inl, inr, arith}
+use Rattle.std.proofs.Common.{◌≡◌, ℤ, ◌<ℤ◌, ◌≤ℤ◌, int_lt, Bool, true, false, ◌&&◌, ◌||◌, List, [], ◌∷◌, length, refl, sym, ◌∙◌, ap, ◌⊎◌, inl, inr, arith}
 use Rattle.std.proofs.lemmas.Int.{ints, by_lt_z}
 use Rattle.std.proofs.lemmas.Bool.Decides.{Decides-int_eq}
 use Rattle.std.specs.List.{AllByRecursion}
@@ -13,8 +13,11 @@ use Rattle.tv_spec_series.specs.Families.{entries_before, comes_before}
 
 -- ---- whole numbers
 
-int_lt-true : (a b : ℤ) → a <ℤ b → int_lt a b ≡ true
+pub int_lt-true : (a b : ℤ) → a <ℤ b → int_lt a b ≡ true
 int_lt-true a b h = grind (arith, ints)
+
+pub int_lt-false : (a b : ℤ) → b ≤ℤ a → int_lt a b ≡ false
+int_lt-false a b h = grind (arith, ints)
 
 int_lt_tells : (a b : ℤ) → int_lt a b ≡ true → a <ℤ b
 int_lt_tells a b h = grind (arith, ints)

@@ -9,7 +9,6 @@
 -- fitting_by legs t m == the slices at t that fit the legs and have m extras
 -- fitting legs t k    == those with at most k extras
 -- diagonal_at first n == the diagonal first + n
--- total f xs          == the sum of f over the list
 -- ways legs k first n s c == in how many ways slices that fit, with at most k extras each, can be chosen from the diagonal
 --                        first up to slice s at first + n, such that neighbours interlace, the first slice is that of the
 --                        legs alone, and the extras of all of them number c; s is taken as it is, and must fit
@@ -25,6 +24,7 @@
 use Rattle.std.specs.Prelude.{ℕ, zero, suc, ◌+◌, ◌-◌, ◌*◌, ℤ, pos, ◌+ℤ◌, ◌-ℤ◌, neg_ℤ, unsigned_abs, List, [], ◌∷◌, ◌++◌, map, filter, Bool, cond, ◌&&◌, nat_eq, nat_lt, nat_le}
 use Rattle.std.specs.List.{flat_map}
 use Rattle.std.specs.Int.{int_min}
+use Rattle.tv_lemmas.specs.Sums.{sum_of}
 use Rattle.tv_cells.specs.declared.legs.Legs.{Legs}
 use Rattle.tv_cells.specs.Cells.{below}
 use Rattle.tv_cells.specs.Extras.{extent}
@@ -59,18 +59,14 @@ fitting legs t k = flat_map (fitting_by legs t) (below (suc k))
 abbrev pub diagonal_at : ℤ → ℕ → ℤ
 diagonal_at first n = first +ℤ pos n
 
-abbrev pub total : {A : Type 0} → (A → ℕ) → List A → ℕ
-total f [] = 0
-total f (x ∷ xs) = f x + total f xs
-
 unfoldable pub ways : Legs → ℕ → ℤ → ℕ → Shape → ℕ → ℕ
 ways legs k first zero s c = cond (nat_eq c 0 && nat_eq (extras_of legs first s) 0) 1 0
 ways legs k first (suc n) s c =
     cond (nat_le (extras_of legs (diagonal_at first (suc n)) s) c)
-    (total (λ a. ways legs k first n a (c - extras_of legs (diagonal_at first (suc n)) s)) (filter (λ a. interlaces (diagonal_at first n) a s) (fitting legs (diagonal_at first n) k))) 0
+    (sum_of (λ a. ways legs k first n a (c - extras_of legs (diagonal_at first (suc n)) s)) (filter (λ a. interlaces (diagonal_at first n) a s) (fitting legs (diagonal_at first n) k))) 0
 
 abbrev pub paths_from : Legs → ℕ → ℕ → ℕ → ℕ
-paths_from legs k far i = total (λ s. ways legs k (neg_ℤ (pos far)) (2 * far) s i) (fitting legs (pos far) 0)
+paths_from legs k far i = sum_of (λ s. ways legs k (neg_ℤ (pos far)) (2 * far) s i) (fitting legs (pos far) 0)
 
 unfoldable pub paths : Legs → ℕ → ℕ → ℕ
 paths legs k i = paths_from legs k (k + extent legs) i

@@ -15,14 +15,14 @@
 -- fits legs t s     == the heights fall and none is 0; exactly the places in the leg along z have no end, and each other
 --                      column is at least as high as the legs there
 -- over legs t h d   == by how much a column of height h at place d of slice t is higher than the legs; 0 in the leg along z
--- sum_below n f     == f 0 + f 1 + .. + f (n - 1)
 -- extras_of legs t s == the number of extras of the slice
 -- completion legs t s == the number of extras on the diagonals above t, where at (x, y) stands the greater of the height of
 --                      the legs and the height of the slice at (x, x - t): the least that completes it
 use Rattle.std.specs.Prelude.{ℕ, zero, suc, ◌+◌, ◌-◌, ℤ, pos, negsuc, max, List, length, slice_index, Bool, true, not, cond, ◌&&◌, ◌||◌, nat_lt, nat_le}
+use Rattle.tv_lemmas.specs.Sums.{sum_of}
 use Rattle.tv_partition.specs.Rows.{has}
 use Rattle.tv_cells.specs.declared.legs.Legs.{Legs}
-use Rattle.tv_cells.specs.Cells.{x_from, y_from}
+use Rattle.tv_cells.specs.Cells.{below, x_from, y_from}
 use Rattle.tv_cells.specs.Extras.{extent}
 use Rattle.tv_spec_slices.specs.Falling.{falls}
 
@@ -68,13 +68,12 @@ fits legs t s = falls s.heights && all_below (max (reach s) (extent legs)) (fits
 abbrev pub over : Legs → ℤ → ℕ → ℕ → ℕ
 over legs t h d = cond (is_endless legs t d) 0 (h - base_at legs t d)
 
-abbrev pub sum_below : ℕ → (ℕ → ℕ) → ℕ
-sum_below zero f = 0
-sum_below (suc n) f = sum_below n f + f n
-
 abbrev pub extras_of : Legs → ℤ → Shape → ℕ
-extras_of legs t s = sum_below (reach s) (λ d. over legs t (at s d) d)
+extras_of legs t s = sum_of (λ d. over legs t (at s d) d) (below (reach s))
 
--- for each place the cells (x, y) with its x and with y below x - t, which are those above diagonal t
+-- how many of the cells (x, y) with the x of that place and with y below x - t, which are those above diagonal t
+abbrev pub above : Legs → ℤ → Shape → ℕ → ℕ
+above legs t s d = sum_of (λ y. cond (has legs.along_z (d + x_from t) y) 0 (at s d - base legs (d + x_from t) y)) (below (d + y_from t))
+
 abbrev pub completion : Legs → ℤ → Shape → ℕ
-completion legs t s = sum_below (reach s) (λ d. sum_below (d + y_from t) (λ y. cond (has legs.along_z (d + x_from t) y) 0 (at s d - base legs (d + x_from t) y)))
+completion legs t s = sum_of (above legs t s) (below (reach s))

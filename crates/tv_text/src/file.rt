@@ -1,6 +1,6 @@
 //! A file as text. How numbers and words are spelled is the concern of the modules below.
 
-ghost use Rattle.std.specs.Prelude.{◌≡◌, ◌≤◌, ◌<◌, suc, length, map, MatchResult};
+ghost use Rattle.std.specs.Prelude.{◌≡◌, ◌≤◌, ◌<◌, ◌+◌, suc, length, map, MatchResult};
 ghost use Rattle.tv_spec_text.specs.Lines.{words};
 ghost use Rattle.tv_spec_text.specs.Files.{Spells};
 ghost use Rattle.tv_text.specs.Faults.{IsText, IsTextFault, IsLineFault};
@@ -13,13 +13,16 @@ use tv_lattice::excess::limits;
 use tv_lattice::fault::{FileFault, InputError};
 use tv_lattice::file::{FileData, RawFile};
 
-/// The file that the bytes spell, whatever their first byte is. They are refused where they are more than 65,536,
+/// The most bytes that a file may have.
+pub const MOST_BYTES: usize = 65_536;
+
+/// The file that the bytes spell, whatever their first byte is. They are refused where they are more than `MOST_BYTES`,
 /// else at the first line with which no file goes on (after the last line, where they end too early), else by the
 /// first limit that the file passes. Want of memory may come at any time after the bytes are counted.
 pub fn read_file(alloc: Global, bytes: &[u8]) -> Result<FileData, InputError>
     ensures { MatchResult result (IsText bytes.now) (IsTextFault bytes.now) }
 {
-    if bytes.len() > 65536 {
+    if bytes.len() > MOST_BYTES {
         return Err(InputError::Fault(FileFault::TooLong));
     }
     let lines = lines_of(alloc, bytes)?;
@@ -28,7 +31,7 @@ pub fn read_file(alloc: Global, bytes: &[u8]) -> Result<FileData, InputError>
 }
 
 fn read_lines(alloc: Global, lines: &[&[u8]]) -> Result<RawFile, InputError>
-    requires { length lines.now ≤ 65537 }
+    requires { length lines.now ≤ MOST_BYTES + 1 }
     ensures { MatchResult result (Spells (map words (texts lines.now))) (IsLineFault (map words (texts lines.now))) }
 {
     let mut draft = Draft::new(alloc);
@@ -45,7 +48,7 @@ fn read_lines(alloc: Global, lines: &[&[u8]]) -> Result<RawFile, InputError>
 }
 
 fn bad_line(place: usize) -> InputError
-    requires { place ≤ 65537 }
+    requires { place ≤ MOST_BYTES + 1 }
     ensures { result ≡ InputError.Fault (FileFault.Line (suc place)) }
 {
     InputError::Fault(FileFault::Line(place as u32 + 1))
@@ -55,7 +58,6 @@ fn bad_line(place: usize) -> InputError
 mod tests {
     use super::*;
     use std::test::Fail;
-    use tv_lattice::fault::Excess;
 
     const CONIFOLD: &str =
         "tv 1\npoint 0 0\npoint 1 0\npoint 1 1\npoint 0 1\ntriangle 0 1 2\ntriangle 0 2 3\nheights 0 1 0 0\nend\n";
@@ -90,35 +92,6 @@ mod tests {
     }
 
     #[test]
-    fn names_the_line(rt: HostRuntime) -> Result<(), Fail> {
-        let table = [
-            ("", 1),
-            ("tv 2\nheights\nend\n", 1),
-            ("tv 1\npoint  0 0\nheights\nend\n", 2),
-            ("tv 1\npoint 0 0 \nheights\nend\n", 2),
-            ("tv 1\npoint\t0 0\nheights\nend\n", 2),
-            ("tv 1\npoint 0 -0\nheights\nend\n", 2),
-            ("tv 1\npoint 0 +1\nheights\nend\n", 2),
-            ("tv 1\npoint 0 01\nheights\nend\n", 2),
-            ("tv 1\npoint 0 1234567890\nheights\nend\n", 2),
-            ("tv 1\npoint 0 0\ntriangle 0 0 -1\nheights\nend\n", 3),
-            ("tv 1\ntriangle 0 0 0\npoint 0 0\nheights\nend\n", 3),
-            ("tv 1\nheights 0\r0\nend\n", 2),
-            ("tv 1\nheights 0\n", 3),
-            ("tv 1\nheights 0\nend\r", 3),
-            ("tv 1\nheights 0\nend\n\n", 4),
-        ];
-        for (text, line) in table {
-            assert_eq!(rt;
-                fault(rt.alloc(), text.as_bytes())?,
-                Some(FileFault::Line(line)),
-                "at {text:?}"
-            );
-        }
-        Ok(())
-    }
-
-    #[test]
     fn names_a_byte_past_ascii(rt: HostRuntime) -> Result<(), Fail> {
         let mut bytes = Vec::from_slice(rt.alloc(), b"tv 1\npoint 0 0\npoint 0 ".as_slice())?;
         bytes.push(200)?;
@@ -128,33 +101,9 @@ mod tests {
     }
 
     #[test]
-    fn names_the_limit(rt: HostRuntime) -> Result<(), Fail> {
-        let far = "tv 1\npoint 100 -100\npoint 0 0\npoint 0 101\nheights 1000001\nend\n";
-        assert_eq!(rt;
-            fault(rt.alloc(), far.as_bytes())?,
-            Some(FileFault::TooMany(Excess::Coordinate(2)))
-        );
-        let high = "tv 1\nheights 1000000 -1000001\nend\n";
-        assert_eq!(rt;
-            fault(rt.alloc(), high.as_bytes())?,
-            Some(FileFault::TooMany(Excess::Height(1)))
-        );
-        let mut text = String::from_str(rt.alloc(), "tv 1\n")?;
-        for _ in 0..65 {
-            text.push_str("point 0 0\n")?;
-        }
-        text.push_str("heights\nend\n")?;
-        assert_eq!(rt;
-            fault(rt.alloc(), text.as_bytes())?,
-            Some(FileFault::TooMany(Excess::Points(65)))
-        );
-        Ok(())
-    }
-
-    #[test]
     fn counts_the_bytes(rt: HostRuntime) -> Result<(), Fail> {
         let mut bytes = Vec::new(rt.alloc());
-        for _ in 0..65536 {
+        for _ in 0..MOST_BYTES {
             bytes.push(b' ')?;
         }
         assert_eq!(rt; fault(rt.alloc(), &bytes)?, Some(FileFault::Line(1)));

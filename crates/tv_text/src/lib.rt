@@ -9,6 +9,6 @@ mod lines;
 pub mod number;
 mod numbers;
 pub mod refusal;
-mod row;
+pub mod row;
 pub mod series;
 mod stage;

@@ -116,49 +116,7 @@ mod tests {
     use std::test::Fail;
 
     #[test]
-    fn prints_each_refusal(rt: HostRuntime) -> Result<(), Fail> {
-        let table = [
-            (FileFault::TooLong, "refused file 1\n"),
-            (FileFault::Line(5), "refused file 2 5\n"),
-            (FileFault::Json, "refused file 13\n"),
-            (
-                FileFault::TooMany(Excess::Points(65)),
-                "refused file 3 points 65\n",
-            ),
-            (
-                FileFault::TooMany(Excess::Triangles(129)),
-                "refused file 3 triangles 129\n",
-            ),
-            (
-                FileFault::TooMany(Excess::Coordinate(2)),
-                "refused file 3 coordinate 2\n",
-            ),
-            (
-                FileFault::TooMany(Excess::Height(0)),
-                "refused file 3 height 0\n",
-            ),
-            (FileFault::Repeated(0, 3), "refused file 4 0 3\n"),
-            (FileFault::Index(1), "refused file 5 1\n"),
-            (FileFault::Flat, "refused file 6\n"),
-            (FileFault::Area(1, 2), "refused file 7 1 2\n"),
-            (FileFault::Twice(0, 1), "refused file 8 0 1\n"),
-            (FileFault::Unmatched(2, 3), "refused file 9 2 3\n"),
-            (FileFault::Bare(1, 4), "refused file 10 1 4\n"),
-            (FileFault::HeightCount(3), "refused file 11 3\n"),
-            (FileFault::Degree(0, 2, -1), "refused file 12 0 2 -1\n"),
-        ];
-        for (fault, text) in table {
-            let line = print_refusal(rt.alloc(), &Refusal::File(fault))?;
-            assert_eq!(rt; line.as_slice(), text.as_bytes(), "at {text:?}");
-        }
-        let words = print_refusal(rt.alloc(), &Refusal::Words(3))?;
-        assert_eq!(rt; words.as_slice(), b"refused words 3\n".as_slice());
-        let class = Class::new(Vec::from_slice(rt.alloc(), [-2, 2, 0].as_slice())?);
-        let wide = print_refusal(rt.alloc(), &Refusal::Wide(WideNumber::Crowd(class)))?;
-        assert_eq!(rt;
-            wide.as_slice(),
-            b"refused wide crowd class -2 2 0\n".as_slice()
-        );
+    fn prints_a_refusal(rt: HostRuntime) -> Result<(), Fail> {
         let class = Class::new(Vec::from_slice(rt.alloc(), [-2, 2, 0].as_slice())?);
         let spread = WideNumber::Spread {
             class,

@@ -124,8 +124,8 @@ fn numbers(alloc: Global, words: &[&[u8]]) -> Result<Option<Vec<i64>>, AllocErro
     Ok(Some(numbers))
 }
 
-// What follows the first word, where that is the text.
-fn after_word<'a>(words: &'a [&'a [u8]], text: &str) -> Option<&'a [&'a [u8]]>
+/// What follows the first word, where that is the text; None where it is another, or there is none.
+pub fn after_word<'a>(words: &'a [&'a [u8]], text: &str) -> Option<&'a [&'a [u8]]>
     ensures { MatchOption result ((ws : List (List ℕ)) → texts words.now ≢ text.now ∷ ws) (λ rest. texts words.now ≡ text.now ∷ texts rest.now) }
 {
     match words {
@@ -146,7 +146,9 @@ fn is_word(word: &[u8], text: &str) -> bool
     word == text.as_bytes()
 }
 
-fn after_number<'a>(words: &'a [&'a [u8]]) -> Option<(i64, &'a [&'a [u8]])>
+/// The number, of at most nine digits, that the first word spells, and what follows it; None where it spells none, or
+/// there is no word.
+pub fn after_number<'a>(words: &'a [&'a [u8]]) -> Option<(i64, &'a [&'a [u8]])>
     ensures { MatchOption result ((z : ℤ) (ws : List (List ℕ)) → IsNumber z → texts words.now ≢ spelled z ∷ ws) (λ r. IsNumber r.0 × (texts words.now ≡ spelled r.0 ∷ texts r.1.now)) }
 {
     match words {

@@ -21,7 +21,7 @@ use Rattle.tv_top.specs.declared.answer.Failure.{Failure}
 use Rattle.tv_top.proofs.Told.{terms-onto, entries_of}
 
 reduced_sections : (w : Web) (d : ℕ) (n : ℤ) (f : Family ℤ) (rows : List (Row ℤ)) → f.heights ≡ w.heights → f.upto ≡ n
-    → AllByRecursion (IsReducedRow wholes w (no_legs w) n) rows → AllByRecursion (λ row. TellsRow f row (section_of f.heights row)) rows → AllByRecursion IsSmall (map (section_of f.heights) rows)
+    → AllByRecursion (IsReducedRow wholes w (no_legs w) d n) rows → AllByRecursion (λ row. TellsRow f row (section_of f.heights row)) rows → AllByRecursion IsSmall (map (section_of f.heights) rows)
     → AllByRecursion (IsReducedSection w n) (map (section_of f.heights) rows)
 reduced_sections w d n f [] hs u reduced tells small = tt
 reduced_sections w d n f (row ∷ rows) hs u reduced tells small =

@@ -2,12 +2,13 @@
 use Rattle.std.proofs.Common.{◌≡◌, ℕ, ◌-◌, ◌*◌, ◌^◌, ◌<◌, ℤ, pos, ◌≤ℤ◌, List, [], ◌∷◌, Contains, Bool, true, false, ◌&&◌, int_le, Result, Ok, Err, inl, inr, refl, sym, arith, subst}
 use Rattle.std.proofs.lemmas.Int.{ints}
 use Rattle.std.specs.List.{AllByRecursion}
+use Rattle.tv_lemmas.specs.Sums.{sum_of}
 use Rattle.tv_ring.specs.Operations.{limit}
 use Rattle.tv_ring.specs.Whole.{wholes}
 use Rattle.tv_spec_plane.specs.Web.{Web, degree_of}
 use Rattle.tv_spec_boxes.specs.Assignments.{Rows, no_legs, class_of, assignments, assignments_of, same_vector}
 use Rattle.tv_spec_boxes.specs.Classes.{IsClass}
-use Rattle.tv_spec_boxes.specs.Numbers.{sum_of, crowd}
+use Rattle.tv_spec_boxes.specs.Numbers.{crowd}
 use Rattle.tv_spec_plane.specs.Graded.{IsGraded}
 use Rattle.tv_lemmas.proofs.Members.{all-filter, all-members}
 use Rattle.tv_spec_boxes.proofs.Vectors.{same_vector_tells}
@@ -24,7 +25,6 @@ use Rattle.tv_top.specs.declared.answer.Failure.{Failure}
 use Rattle.tv_top.specs.declared.status.Status.TheVariants.{Wide}
 
 some_of : {A P : Type 0} (f : A → ℕ) (xs : List A) → 0 < sum_of f xs → AllByRecursion (λ _. P) xs → P
-unfolding sum_of
 some_of f [] h all = absurd (omega arith)
 some_of f (x ∷ xs) h all = all.0
 

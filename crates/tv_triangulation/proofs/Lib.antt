@@ -4,7 +4,6 @@ pub mod Earliest
 pub mod Turning
 pub mod Matching
 pub mod Tilings
-pub mod Spread
 pub mod Tiled
 pub mod OneTriangle
 pub mod Accepted

@@ -11,21 +11,15 @@ use Rattle.tv_lattice.specs.declared.fault.FileFault.TheVariants.{TooLong, Line,
 use Rattle.tv_triangulation.specs.Turned.{turned, IsUnit}
 use Rattle.tv_triangulation.specs.Checks.{IsTwice, IsUnmatched, IsBare}
 use Rattle.tv_triangulation.specs.Faults.{IsFirstFault}
-use Rattle.tv_laws_tiling.specs.Points.{AreSmall}
 use Rattle.tv_lemmas.proofs.Members.{all-at}
 use Rattle.tv_laws_tiling.proofs.Lists.{flat_map-once_apart}
 use Rattle.tv_laws_tiling.proofs.Exchanges.{exchanged_triangles_tile}
 use Rattle.tv_laws_tiling_converse.proofs.Neighbours.{edges-once, edges-outer}
 use Rattle.tv_laws_tiling_converse.proofs.Tiled.{outer-covered}
 use Rattle.tv_triangulation.specs.Triangulated.{IsTiled}
-use Rattle.tv_triangulation.proofs.Spread.{not_flat-spread}
 use Rattle.tv_triangulation.proofs.Turning.{turned-all}
 use Rattle.tv_triangulation.proofs.Tilings.{no_triple}
 use Rattle.tv_triangulation.proofs.Untwisted.{exchange_at, length-turned}
-
-small_all : (ps : List Point) → AllByRecursion HasCoordinates ps → AreSmall ps
-small_all [] h = tt
-small_all (p ∷ ps) h = (record { x = h.0.0; y = h.0.1 }, small_all ps h.1)
 
 module _ (ps : List Point) (ts : List Triple) (coordinates : AllByRecursion HasCoordinates ps) (t : IsTiled ps ts) where
   turned_all : AreTurned ps (turned ps ts)
@@ -35,13 +29,13 @@ module _ (ps : List Point) (ts : List Triple) (coordinates : AllByRecursion HasC
   tiles_turned = (exchanged_triangles_tile ps ts (turned ps ts) (length-turned ps ts) (exchange_at ps ts)).0 t.tiles
 
   no_twice : (i j : ℕ) → IsTwice (turned ps ts) i j → ⊥
-  no_twice i j h = flat_map-once_apart sides no_triple h.edge (turned ps ts) (edges-once ps (turned ps ts) (small_all ps coordinates) t.distinct turned_all tiles_turned) i j h.ordered h.listed h.shared.first h.shared.second
+  no_twice i j h = flat_map-once_apart sides no_triple h.edge (turned ps ts) (edges-once ps (turned ps ts) coordinates t.distinct turned_all tiles_turned) i j h.ordered h.listed h.shared.first h.shared.second
 
   no_unmatched : (a b : ℕ) → IsUnmatched (IsHullSegment ps) (edges (turned ps ts)) a b → ⊥
-  no_unmatched a b h = elim (edges-outer ps (turned ps ts) (small_all ps coordinates) t.distinct turned_all tiles_turned (a, b) h.edge) [ inl p ↦ h.lone p | inr p ↦ h.inner p ]
+  no_unmatched a b h = elim (edges-outer ps (turned ps ts) coordinates t.distinct turned_all tiles_turned (a, b) h.edge) [ inl p ↦ h.lone p | inr p ↦ h.inner p ]
 
   no_bare : (a b : ℕ) → IsBare (IsHullSegment ps) (edges (turned ps ts)) a b → ⊥
-  no_bare a b h = h.bare (outer-covered ps (turned ps ts) (small_all ps coordinates) t.distinct (not_flat-spread ps t.spread) turned_all tiles_turned (a, b) h.outer)
+  no_bare a b h = h.bare (outer-covered ps (turned ps ts) coordinates t.distinct t.spread turned_all tiles_turned (a, b) h.outer)
 
   pub tiled-no_fault : (f : FileFault) → IsFirstFault ps ts f → ⊥
   tiled-no_fault (Repeated i j) h = let r = h.second.holds in let ordered = r.ordered in let same : i ≡ j = t.distinct i j (omega arith) r.listed r.equal in absurd (omega arith)

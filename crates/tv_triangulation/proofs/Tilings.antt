@@ -16,72 +16,26 @@ use Rattle.tv_laws_tiling.specs.Hull.{IsHull}
 use Rattle.tv_laws_tiling.specs.Edges.{sides, IsListed, IsMatched}
 use Rattle.tv_lemmas.proofs.Members.{all-at}
 use Rattle.tv_lemmas.proofs.Signs.{sign}
-use Rattle.tv_laws_tiling.specs.Points.{AreSmall, SpansPlane}
+use Rattle.tv_laws_tiling.specs.Points.{AreDistinct}
 use Rattle.tv_laws_tiling.specs.Laws.{IsExchange}
 use Rattle.tv_laws_tiling.proofs.Lists.{flat_map-once_apart}
 use Rattle.tv_laws_tiling.proofs.Exchanges.{exchanged_triangles_tile}
 use Rattle.tv_laws_tiling.proofs.Matched.{matched_triangles_tile}
 use Rattle.tv_laws_tiling_converse.proofs.Tiled.{tiling_triangles_match}
-use Rattle.tv_hull.specs.Points.{AreDistinct, IsRepeat}
-use Rattle.tv_laws_tiling.proofs.Rotations.{turn-first, turn-rotate}
-use Rattle.tv_hull.proofs.Collinear.{flat-line}
+use Rattle.tv_hull.specs.Points.{IsRepeat}
 use Rattle.tv_triangulation.specs.Mesh.{Mesh, IsTriangulated}
 use Rattle.tv_triangulation.specs.Turned.{turn_of, turned_of, turned, IsUnit}
 use Rattle.tv_triangulation.specs.Checks.{AreListed, AreUnit}
 use Rattle.tv_triangulation.specs.Faults.{IsFullSet, IsMisfit, IsFirstFault, IsAnswer, IsEarlyAnswer, IsAccepted}
 use Rattle.tv_triangulation.proofs.Turning.{turned-all}
-
--- ---- what the laws ask
-small-points : (ps : List Point) → AllByRecursion HasCoordinates ps → AreSmall ps
-small-points [] all = tt
-small-points (p ∷ ps) all = (record { x = all.0.0; y = all.0.1 }, small-points ps all.1)
-
-all_or_some : (f : ℕ → ℤ) (n : ℕ) → ((k : ℕ) → k < n → f k ≡ pos 0) ⊎ ((k : ℕ) × (k < n) × (f k ≢ pos 0))
-all_or_some f zero = inl (λ k h. absurd (omega arith))
-all_or_some f (suc n) = elim (all_or_some f n) [
-  | inr some ↦ inr (some.0, omega (arith, some.1), some.2)
-  | inl all ↦ elim (sign (f n)) [
-    | inl less ↦ inr (n, omega arith, λ e. omega (arith, ints))
-    | inr (inl here) ↦ inl (λ k h. elim (last_or_below k n h) [ inl below ↦ all k below | inr last ↦ subst (λ (m : ℕ). f m ≡ pos 0) (sym last) here ])
-    | inr (inr more) ↦ inr (n, omega arith, λ e. omega (arith, ints))
-  ]
-]
-  where
-    last_or_below : (k n : ℕ) → k < suc n → (k < n) ⊎ (k ≡ n)
-    last_or_below k n h = grind arith
-
-lone-flat : (ps : List Point) (k : ℕ) → length ps ≤ 1 → k < length ps → turn (at ps 0) (at ps 1) (at ps k) ≡ pos 0
-lone-flat ps k few h =
-    let first : k ≡ 0 = omega arith in
-    rw first (omega (arith, ints, turn-rotate (at ps 0) (at ps 0) (at ps 1), turn-first (at ps 0) (at ps 1)))
-
-few_or_many : (n : ℕ) → (n ≤ 1) ⊎ (1 < n)
-few_or_many n = grind arith
-
-spread-points : (ps : List Point) → AllByRecursion HasCoordinates ps → IsFullSet ps → SpansPlane ps
-spread-points ps small spread = elim (all_or_some (λ k. turn (at ps 0) (at ps 1) (at ps k)) (length ps)) [
-  | inl all ↦ absurd (spread.1 (flat-line ps small spread.0 all))
-  | inr some ↦ elim (few_or_many (length ps)) [
-    | inl few ↦ absurd (some.2 (lone-flat ps some.0 few some.1))
-    | inr many ↦ record { a = 0; b = 1; c = some.0; a_listed = omega arith; b_listed = many; c_listed = some.1; turned = some.2 }
-  ]
-]
+use Rattle.tv_triangulation.proofs.Untwisted.{exchange_at, length-turned}
 
 -- ---- the file's own triangles
-exchange-one : (t : Triple) (b : Bool) → IsExchange t (cond b (record { a = t.a; b = t.c; c = t.b }) t)
-exchange-one t true = inr refl
-exchange-one t false = inl refl
-
-exchange-all : (ps : List Point) (ts : List Triple) (i : ℕ) → i < length ts → IsExchange (triangle_at ts i) (triangle_at (turned ps ts) i)
-exchange-all ps [] i h = absurd (omega arith)
-exchange-all ps (t ∷ ts) zero h = exchange-one t (int_lt (turn_of ps t) (pos 0))
-exchange-all ps (t ∷ ts) (suc i) h = exchange-all ps ts i (omega arith)
-
 tiles-turned : (ps : List Point) (ts : List Triple) → Tiles ps ts ↔ Tiles ps (turned ps ts)
-tiles-turned ps ts = exchanged_triangles_tile ps ts (turned ps ts) (sym (length-map ts (turned_of ps))) (exchange-all ps ts)
+tiles-turned ps ts = exchanged_triangles_tile ps ts (turned ps ts) (length-turned ps ts) (exchange_at ps ts)
 
 pub triangulated-tiles : (m : Mesh) → AllByRecursion HasCoordinates m.points → IsTriangulated m → Tiles m.points m.triangles
-triangulated-tiles m small mesh = matched_triangles_tile m.points m.triangles mesh.hull (small-points m.points small) (spread-points m.points small (mesh.distinct, mesh.spread)) mesh.is_hull mesh.turned mesh.matched
+triangulated-tiles m small mesh = matched_triangles_tile m.points m.triangles mesh.hull small mesh.spread mesh.is_hull mesh.turned mesh.matched
 
 pub accepted-tiles : (ps : List Point) (ts : List Triple) (m : Mesh) → AllByRecursion HasCoordinates ps → IsAccepted ps ts m → Tiles ps ts
 accepted-tiles ps ts m small accepted = (tiles-turned ps ts).1 (triangulated-tiles (record { points = ps; triangles = turned ps ts }) small (subst IsTriangulated accepted.whole accepted.triangulated))
@@ -102,7 +56,7 @@ distinct-repeat ps i j distinct repeat = let same : i ≡ j = distinct i j (omeg
 
 module _ (ps : List Point) (ts : List Triple) (small : AllByRecursion HasCoordinates ps) (spread : IsFullSet ps) (listed : AreListed ps ts) (unit : AreUnit ps ts) (tiles : Tiles ps ts) where
   tiled-matched : (hull : List Segment) → IsHull ps hull → IsMatched hull (turned ps ts)
-  tiled-matched hull h = tiling_triangles_match ps (turned ps ts) hull (small-points ps small) spread.0 (spread-points ps small spread) h (turned-all ps ts listed unit) ((tiles-turned ps ts).0 tiles)
+  tiled-matched hull h = tiling_triangles_match ps (turned ps ts) hull small spread.0 spread.1 h (turned-all ps ts listed unit) ((tiles-turned ps ts).0 tiles)
 
   tiled-fault : (hull : List Segment) → IsHull ps hull → (f : FileFault) → IsFirstFault ps ts f → ⊥
   tiled-fault hull h (Repeated i j) fault = distinct-repeat ps i j spread.0 fault.second.holds

@@ -19,13 +19,14 @@ use Rattle.tv_lattice.specs.declared.fault.FileFault.TheVariants.{Repeated, Inde
 use Rattle.tv_lattice.specs.declared.fault.InputError.{InputError}
 use Rattle.tv_lattice.specs.declared.fault.InputError.TheVariants.{Fault, Memory}
 use Rattle.tv_hull.specs.Pairs.{IsFirstPair}
-use Rattle.tv_hull.specs.Points.{AreDistinct, IsRepeat, IsFlat}
+use Rattle.tv_laws_tiling.specs.Points.{AreDistinct, IsFlat, SpansPlane}
+use Rattle.tv_hull.specs.Points.{IsRepeat}
 use Rattle.tv_triangulation.specs.Mesh.{Mesh, IsTriangulated}
 use Rattle.tv_triangulation.specs.Turned.{doubled_of, turned, IsUnit}
 use Rattle.tv_triangulation.specs.Checks.{IsFirstNot, AreListed, AreUnit, IsTwice, IsUnmatched, IsBare, NoPair}
 
 abbrev pub IsFullSet : List Point → Type 0
-IsFullSet ps = AreDistinct ps × (IsFlat ps → ⊥)
+IsFullSet ps = AreDistinct ps × SpansPlane ps
 
 abbrev pub AreSound : List Point → List Triple → Type 0
 AreSound ps ts = IsFullSet ps × AreListed ps ts × AreUnit ps ts

@@ -6,12 +6,12 @@ use Rattle.std.specs.Prelude.{List}
 use Rattle.tv_spec_plane.specs.declared.records.Triple.{Triple}
 use Rattle.tv_spec_plane.specs.Plane.{Point}
 use Rattle.tv_spec_plane.specs.Tiling.{Tiles}
-use Rattle.tv_hull.specs.Points.{AreDistinct, IsFlat}
+use Rattle.tv_laws_tiling.specs.Points.{AreDistinct, SpansPlane}
 use Rattle.tv_triangulation.specs.Checks.{AreListed, AreUnit}
 
 pub record IsTiled (ps : List Point) (ts : List Triple) : Type 0 where
   pub distinct : AreDistinct ps
-  pub spread : IsFlat ps → ⊥
+  pub spread : SpansPlane ps
   pub listed : AreListed ps ts
   pub unit : AreUnit ps ts
   pub tiles : Tiles ps ts

@@ -5,6 +5,7 @@
 mod area;
 mod edges;
 mod index;
+pub mod laws;
 mod misfit;
 mod pairs;
 #[cfg(test)]

@@ -8,6 +8,7 @@ ghost use Rattle.tv_triangulation.specs.Faults.{IsMisfit, Fits};
 use crate::pairs::{first_bare, first_unmatched};
 use crate::twice::first_twice;
 use tv_lattice::fault::FileFault;
+use tv_spec_plane::limits::MOST_TRIANGLES;
 use tv_spec_plane::records::Triple;
 
 /// The first fault of the edges of turned triangles: a common edge, one without its back, a bare hull segment.
@@ -17,7 +18,7 @@ pub fn first_misfit(
     hull: &[(u32, u32)],
 ) -> Option<FileFault>
     requires edges { edges.now ≡ edges_in turned.now }
-    requires count { length turned.now ≤ 128 }
+    requires count { length turned.now ≤ MOST_TRIANGLES }
     ensures { MatchOption result (Fits (IsListedIn hull.now) turned.now) (IsMisfit (IsListedIn hull.now) turned.now) }
 {
     if let Some((t, u)) = first_twice(turned) {

@@ -17,6 +17,7 @@ use tv_hull::hull::known;
 use tv_hull::{LatticeFault, hull_segments};
 use tv_lattice::fault::{FileFault, InputError};
 use tv_lattice::point::Point;
+use tv_spec_plane::limits::{MOST_POINTS, MOST_TRIANGLES};
 use tv_spec_plane::records::Triple;
 
 /// The points with the turned triangles, or the first check that fails: equal points, a point that isn't there, points
@@ -29,8 +30,8 @@ pub fn triangulate(
     points: &[Point],
     triangles: &[Triple],
 ) -> Result<Triangulation, InputError>
-    requires points { length points.now ≤ 64 }
-    requires triangles { length triangles.now ≤ 128 }
+    requires points { length points.now ≤ MOST_POINTS }
+    requires triangles { length triangles.now ≤ MOST_TRIANGLES }
     ensures checks { MatchResult result (IsAccepted points.now triangles.now) (IsAnswer points.now triangles.now) }
     ensures tiles { OnOk result (Tiles points.now triangles.now) }
     ensures accepts { AreSound points.now triangles.now → Tiles points.now triangles.now → IsOkUnless result InputError.Memory }
@@ -47,8 +48,8 @@ fn fitted(
     triangles: &[Triple],
     hull: &[(u32, u32)],
 ) -> Result<Triangulation, InputError>
-    requires points { length points.now ≤ 64 }
-    requires triangles { length triangles.now ≤ 128 }
+    requires points { length points.now ≤ MOST_POINTS }
+    requires triangles { length triangles.now ≤ MOST_TRIANGLES }
     requires hull { IsHull points.now hull.now }
     requires spread { IsFullSet points.now }
     requires listed { AreListed points.now triangles.now }
@@ -72,8 +73,8 @@ fn hull_of(
     points: &[Point],
     triangles: &[Triple],
 ) -> Result<Vec<(u32, u32)>, InputError>
-    requires points { length points.now ≤ 64 }
-    requires triangles { length triangles.now ≤ 128 }
+    requires points { length points.now ≤ MOST_POINTS }
+    requires triangles { length triangles.now ≤ MOST_TRIANGLES }
     ensures { MatchResult result (λ h. IsHull points.now h.items × IsFullSet points.now × AreListed points.now triangles.now) (IsEarlyAnswer points.now triangles.now) }
 {
     match hull_segments(alloc, points) {

@@ -8,11 +8,12 @@ ghost use Rattle.tv_hull.specs.Pairs.{IsFirst, IsFirstPair};
 ghost use Rattle.tv_triangulation.specs.Checks.{IsShared, IsTwice, NoPair};
 
 use crate::edges::{contains, sides_of};
+use tv_spec_plane::limits::MOST_TRIANGLES;
 use tv_spec_plane::records::Triple;
 
 /// The first pair of triangles, by the lesser and then the greater number, with a directed edge in common.
 pub fn first_twice(triangles: &[Triple]) -> Option<(u32, u32)>
-    requires { length triangles.now ≤ 128 }
+    requires { length triangles.now ≤ MOST_TRIANGLES }
     ensures { MatchOption result (NoPair (IsTwice triangles.now)) (λ p. IsFirstPair (IsTwice triangles.now) p.0 p.1) }
 {
     for t in 0..triangles.len() {

@@ -6,8 +6,10 @@ use Rattle.tv_lemmas.proofs.Lists.{filter-map}
 use Rattle.std.specs.Prelude.{filter, cond}
 use Rattle.tv_cells.specs.declared.cell.Cell.{Cell}
 use Rattle.tv_cells.specs.declared.legs.Legs.{Legs}
-use Rattle.tv_cells.specs.Cells.{sublists_of, cube}
+use Rattle.tv_cells.specs.Cells.{sublists_of, cube, rises}
 use Rattle.tv_cells.specs.Extras.{is_extras, count, extent}
+use Rattle.tv_cells.specs.Cuts.{enters, leaves_gap}
+use Rattle.tv_cells.proofs.Dropped.{after-refused, after-gap}
 use Rattle.tv_vertex.specs.Rest.{rest}
 
 one_or_none : (b : Bool) → length {A = List Cell} (cond b ([] ∷ []) []) ≡ cond b 1 0
@@ -42,5 +44,14 @@ rest-step legs chosen c cells (suc n) p =
 pub rest-count : (legs : Legs) (n side : ℕ) → side ≡ n + extent legs → rest legs [] (cube side) n ≡ count legs n
 unfolding rest count
 rest-count legs n side e = rw e refl
+
+-- the cuts leave nothing
+pub rest-refused : (legs : Legs) (chosen : List Cell) (c : Cell) (cells : List Cell) (n : ℕ) → rises (chosen ++ c ∷ cells) ≡ true → enters legs chosen c ≡ false → rest legs (chosen ++ c ∷ []) cells n ≡ 0
+unfolding rest
+rest-refused legs chosen c cells n r off = ap length (after-refused legs chosen c cells n r off)
+
+pub rest-gap : (legs : Legs) (chosen : List Cell) (c : Cell) (cells : List Cell) (n : ℕ) → rises (chosen ++ c ∷ cells) ≡ true → leaves_gap legs chosen c ≡ true → rest legs chosen cells n ≡ 0
+unfolding rest
+rest-gap legs chosen c cells n r gap = ap length (after-gap legs chosen c cells n r gap)
 
 pub ruleset splits = (rest-done, rest-none, rest-step)

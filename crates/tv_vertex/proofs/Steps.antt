@@ -6,11 +6,11 @@ use Rattle.tv_cells.specs.declared.cell.Cell.{Cell}
 use Rattle.tv_cells.specs.declared.legs.Legs.{Legs}
 use Rattle.tv_cells.specs.Cells.{rises, cube}
 use Rattle.tv_cells.specs.Extras.{count, extent}
+use Rattle.tv_cells.specs.Cuts.{leaves_gap}
 use Rattle.tv_cells.proofs.Rising.{rises-remove}
 use Rattle.tv_cells.proofs.Cubes.{cube-rises}
-use Rattle.tv_vertex.specs.Rest.{rest, leaves_gap}
-use Rattle.tv_vertex.proofs.Remaining.{rest-step, rest-none, rest-count}
-use Rattle.tv_vertex.proofs.Cuts.{rest-gap}
+use Rattle.tv_vertex.specs.Rest.{rest}
+use Rattle.tv_vertex.proofs.Remaining.{rest-step, rest-none, rest-count, rest-gap}
 
 -- what holds when the cell c is decided, and the cells after it are left
 pub record Step (legs : Legs) (now after remaining later : List Cell) (c : Cell) (left total added sum whole : ℕ) : Type 0 where

@@ -7,8 +7,6 @@ pub mod fault;
 pub mod grid;
 pub mod listing;
 #[cfg(test)]
-mod listing_tests;
-#[cfg(test)]
 mod tests;
 
 pub use corner::corner_series;

@@ -2,20 +2,18 @@
 //! their order, and a choice ends where no extras can come of it. It hands out a number and no lists.
 
 ghost use Rattle.std.specs.Prelude.{◌≡◌, ◌+◌, ◌*◌, ◌<◌, ◌≤◌, ◌^◌, ◌-◌, ◌++◌, ◌∷◌, [], true, cond, IsTrue, OnOk, IfOk, IfErr, IsErrOf, IsOkUnless};
-ghost use Rattle.std.specs.List.{list_any};
 ghost use Rattle.tv_ring.specs.Operations.{limit};
 ghost use Rattle.tv_ring.specs.Sums.{times};
-ghost use Rattle.tv_cells.specs.Cells.{rises, same};
-ghost use Rattle.tv_cells.specs.Cells.{cell as cell_at};
+ghost use Rattle.tv_cells.specs.Cells.{rises};
 ghost use Rattle.tv_cells.specs.Extras.{count};
-ghost use Rattle.tv_vertex.specs.Rest.{rest, enters, leaves_gap};
+ghost use Rattle.tv_vertex.specs.Rest.{rest};
 
 use crate::fault::CountFault;
 use crate::grid;
 use std::alloc::Global;
 use tv_cells::cell::Cell;
 use tv_cells::legs::Legs;
-use tv_cells::{extras, order};
+use tv_cells::{cuts, extras};
 use tv_ring::{Ring, RingFault, Whole};
 
 /// The number of sets of `number` extras beside the legs, times one.
@@ -69,7 +67,7 @@ fn times_rest<C: Ring>(
     while let Some((cell, later)) = remaining.split_first() {
         let with: C = times_taking(alloc, legs, later, chosen, *cell, left - 1)?;
         total = total.add(&with)?;
-        if leaves_gap(legs, chosen.as_slice(), *cell) {
+        if cuts::leaves_gap(legs, chosen.as_slice(), *cell) {
             return Ok(total);
         }
         remaining = later;
@@ -92,7 +90,7 @@ fn times_taking<C: Ring>(
     ensures wide { IsErrOf result RingFault.Wide → limit < rest legs.now (chosen.old.items ++ cell ∷ []) cells.now left * C.ring.size C.ring.unit }
     ensures kept { OnOk result (chosen.new.items ≡ chosen.old.items) }
 {
-    if !enters(legs, chosen.as_slice(), cell) {
+    if !cuts::enters(legs, chosen.as_slice(), cell) {
         return one_if(alloc, false);
     }
     push_cell(chosen, cell)?;
@@ -117,31 +115,4 @@ fn push_cell(chosen: &mut Vec<Cell>, cell: Cell) -> Result<(), RingFault>
         Ok(()) => Ok(()),
         Err(_) => Err(RingFault::Memory),
     }
-}
-
-#[tactic(auto, unfolding(crate::specs::Rest::enters))]
-fn enters(legs: &Legs, chosen: &[Cell], cell: Cell) -> bool
-    ensures { result ≡ enters legs.now chosen.now cell }
-{
-    extras::in_leg(legs, cell) == 0
-        && (extras::rests_along_y(legs, chosen, cell) && extras::rests_along_z(legs, chosen, cell))
-}
-
-#[tactic(auto, unfolding(crate::specs::Rest::leaves_gap))]
-fn leaves_gap(legs: &Legs, chosen: &[Cell], cell: Cell) -> bool
-    ensures { result ≡ leaves_gap legs.now chosen.now cell }
-{
-    extras::in_leg(legs, cell) == 0 && has_next_along_x(chosen, cell)
-}
-
-fn has_next_along_x(chosen: &[Cell], cell: Cell) -> bool
-    ensures { result ≡ list_any (same (cell_at (cell.x + 1) cell.y cell.z)) chosen.now }
-{
-    chosen.iter().any(|d| is_next_along_x(cell, *d))
-}
-
-fn is_next_along_x(c: Cell, d: Cell) -> bool
-    ensures { result ≡ same (cell_at (c.x + 1) c.y c.z) d }
-{
-    u64::from(c.x) + 1 == u64::from(d.x) && (c.y == d.y && c.z == d.z)
 }

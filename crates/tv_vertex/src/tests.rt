@@ -1,8 +1,9 @@
-//! Corners beside no legs, two legs and three legs of one cell, as they are known from outside.
+//! Corners beside no legs, and beside one, two and three legs of one cell, as they are known from outside.
 
 ghost use Rattle.std.specs.Prelude.{◌<◌, ◌^◌};
 
 use crate::corner_series;
+use crate::listing::{extras_count, extras_times};
 use std::alloc::Global;
 use std::test::Fail;
 use tv_cells::legs::Legs;
@@ -54,26 +55,32 @@ fn counts_plane_partitions(rt: HostRuntime) -> Result<(), Fail> {
 
 #[test]
 fn counts_beside_legs(rt: HostRuntime) -> Result<(), Fail> {
-    let three = legs(rt.alloc(), true, true, true)?;
+    let one = legs(rt.alloc(), false, true, false)?;
     let two = legs(rt.alloc(), true, true, false)?;
-    let beside_three: Series<Whole> = series(rt.alloc(), &three, 2)?;
-    let beside_two: Series<Whole> = series(rt.alloc(), &two, 2)?;
-    for (n, want_three, want_two) in [(0, 1, 1), (1, 3, 2), (2, 9, 6)] {
-        assert!(rt;
-            is_at(beside_three.coefficient(n), want_three),
-            "three legs at {n}"
-        );
-        assert!(rt;
-            is_at(beside_two.coefficient(n), want_two),
-            "two legs at {n}"
-        );
+    let three = legs(rt.alloc(), true, true, true)?;
+    for (number, beside_one, beside_two, beside_three) in [
+        (0, 1, 1, 1),
+        (1, 2, 2, 3),
+        (2, 5, 6, 9),
+    ] {
+        assert_eq!(rt; extras_count(rt.alloc(), &one, number)?, beside_one);
+        assert_eq!(rt; extras_count(rt.alloc(), &two, number)?, beside_two);
+        assert_eq!(rt; extras_count(rt.alloc(), &three, number)?, beside_three);
     }
     Ok(())
+}
+
+fn times<C: Ring>(alloc: Global, legs: &Legs, number: u32) -> Result<C, Fail>
+    requires { number < 2 ^ 29 }
+{
+    Ok(extras_times(alloc, legs, number)?)
 }
 
 #[test]
 fn counts_in_other_rings(rt: HostRuntime) -> Result<(), Fail> {
     let three = legs(rt.alloc(), true, true, true)?;
+    let count: Residue<7> = times(rt.alloc(), &three, 2)?;
+    assert_eq!(rt; count.get(), 2);
     let modulo: Series<Residue<7>> = series(rt.alloc(), &three, 2)?;
     let Coefficient::Is(last) = modulo.coefficient(2) else {
         return Err("a coefficient".into());

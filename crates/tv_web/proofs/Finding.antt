@@ -1,9 +1,9 @@
 -- How the owners of two points are found, one triangle after the other.
 --
 -- left ts a b t == the owners among the triangles from t on
-use Rattle.std.specs.Prelude.{◌≡◌, ℕ, zero, suc, ◌+◌, ◌-◌, ◌<◌, ◌≤◌, Bool, true, false, cond, List, [], ◌∷◌, filter, length}
+use Rattle.std.specs.Prelude.{◌≡◌, ℕ, suc, ◌+◌, ◌-◌, ◌<◌, ◌≤◌, Bool, true, false, cond, List, [], ◌∷◌, filter, length}
 use Rattle.std.specs.List.{range_with_len}
-use Rattle.std.proofs.Common.{refl, sym, ap, ◌∙◌, arith, add-one}
+use Rattle.std.proofs.Common.{refl, sym, ap, ◌∙◌, arith}
 use Rattle.tv_spec_plane.specs.declared.records.Triple.{Triple}
 use Rattle.tv_web.specs.declared.owners.Found.{Found}
 use Rattle.tv_web.specs.declared.owners.Found.TheVariants.{Nothing, More}
@@ -19,13 +19,9 @@ and_all-nothing (t ∷ []) = refl
 and_all-nothing (t ∷ u ∷ []) = refl
 and_all-nothing (t ∷ u ∷ v ∷ ts) = and_all-more ts
 
-pub length-range_with_len : (k n : ℕ) → length (range_with_len k n) ≡ n
-length-range_with_len k zero = refl
-length-range_with_len k (suc n) = ap suc (length-range_with_len (k + 1) n)
-
-pub range_with_len-step : (k n : ℕ) → k < n → range_with_len k (n - k) ≡ k ∷ range_with_len (k + 1) (n - suc k)
+pub range_with_len-step : (k n : ℕ) → k < n → range_with_len k (n - k) ≡ k ∷ range_with_len (k + 1) (n - (k + 1))
 range_with_len-step k n h =
-    let e : n - k ≡ suc (n - suc k) = omega arith in
+    let e : n - k ≡ suc (n - (k + 1)) = omega arith in
     ap (range_with_len k) e
 
 pub range_with_len-end : (k n : ℕ) → n ≤ k → range_with_len k (n - k) ≡ []
@@ -50,7 +46,7 @@ finds_first ts a b =
 pub finds_next : (ts : List Triple) (a b t : ℕ) (f g whole : Found) → t < length ts → g ≡ cond (owns ts a b t) (and_also f t) f → and_all f (left ts a b t) ≡ whole → and_all g (left ts a b (t + 1)) ≡ whole
 unfolding left
 finds_next ts a b t f g whole h e was =
-    rw (add-one, e) (and_all-cond f t (filter (owns ts a b) (range_with_len (suc t) (length ts - suc t))) (owns ts a b t) ∙ (sym (ap (λ ns. and_all f (filter (owns ts a b) ns)) (range_with_len-step t (length ts) h)) ∙ was))
+    rw e (and_all-cond f t (filter (owns ts a b) (range_with_len (t + 1) (length ts - (t + 1)))) (owns ts a b t) ∙ (sym (ap (λ ns. and_all f (filter (owns ts a b) ns)) (range_with_len-step t (length ts) h)) ∙ was))
 
 pub finds_last : (ts : List Triple) (a b t : ℕ) (f whole : Found) → length ts ≤ t → and_all f (left ts a b t) ≡ whole → f ≡ whole
 unfolding left

@@ -9,7 +9,7 @@ use Rattle.tv_spec_plane.specs.declared.records.CompactEdge.{CompactEdge}
 use Rattle.tv_spec_plane.specs.declared.records.OuterEdge.{OuterEdge}
 use Rattle.tv_spec_plane.specs.Plane.{Point}
 use Rattle.tv_spec_plane.specs.Web.{Web, pairs, compact, outer, corners, corner_of, edge_ref, compact_by, outer_by, owners}
-use Rattle.tv_web.proofs.Finding.{length-range_with_len}
+use Rattle.std.proofs.lemmas.List.FromFn.{length-range_with_len}
 use Rattle.tv_web.specs.Found.{owners_in}
 use Rattle.tv_web.specs.Edges.{one, gathered, compact_pair, outer_pair, compact_row, outer_row}
 use Rattle.tv_web.specs.Corners.{corner_in, edge_ref_in}

@@ -1,7 +1,7 @@
 //! The corners of a web: the places of a triangle's three edges in the lists of edges. It makes no edge.
 
 ghost use Rattle.std.specs.Prelude.{◌≡◌, ◌≤◌, ◌+◌, ◌<◌, ◌^◌, length, map, nat_eq, ◌&&◌, IfOk};
-ghost use Rattle.std.specs.List.{position_or_len};
+ghost use Rattle.std.specs.List.{position, position_or_len};
 ghost use Rattle.tv_web.specs.Corners.{names_compact, names_outer, edge_ref_in, corner_in};
 
 use crate::triples;
@@ -49,48 +49,31 @@ fn edge_ref(compact: &[CompactEdge], outer: &[OuterEdge], a: u32, b: u32) -> Edg
     requires few_outer { length outer.now < 2 ^ 32 }
     ensures { result ≡ edge_ref_in compact.now outer.now a b }
 {
-    let inner = compact_place(compact, a, b);
-    if (inner as usize) < compact.len() {
-        EdgeRef::Compact(inner)
-    } else {
-        EdgeRef::Outer(outer_place(outer, a, b))
+    match compact_place(compact, a, b) {
+        Some(k) => EdgeRef::Compact(k as u32),
+        None => EdgeRef::Outer(outer_place(outer, a, b) as u32),
     }
 }
 
-// Its place among the compact edges, or their number.
-fn compact_place(compact: &[CompactEdge], a: u32, b: u32) -> u32
-    requires { length compact.now < 2 ^ 32 }
-    ensures { result ≡ position_or_len (names_compact a b) compact.now }
+// Its place among the compact edges.
+fn compact_place(compact: &[CompactEdge], a: u32, b: u32) -> Option<usize>
+    ensures { result ≡ position (names_compact a b) compact.now }
 {
-    for (k, edge) in compact.iter().enumerate() {
-        if names_compact(*edge, a, b) {
-            return k as u32;
-        }
-    }
-    compact.len() as u32
+    compact.iter().position(|edge| edge.a == a && edge.b == b)
 }
 
 // Its place among the open edges, or their number.
-fn outer_place(outer: &[OuterEdge], a: u32, b: u32) -> u32
-    requires { length outer.now < 2 ^ 32 }
-    ensures { result ≡ position_or_len (names_outer a b) outer.now }
+#[tactic(auto, using(crate::proofs::Places::places))]
+fn outer_place(outer: &[OuterEdge], a: u32, b: u32) -> usize
+    ensures value { result ≡ position_or_len (names_outer a b) outer.now }
+    ensures within { result ≤ length outer.now }
 {
-    for (k, edge) in outer.iter().enumerate() {
-        if names_outer(*edge, a, b) {
-            return k as u32;
-        }
-    }
-    outer.len() as u32
+    let place = outer_found(outer, a, b);
+    place.unwrap_or(outer.len())
 }
 
-fn names_compact(edge: CompactEdge, a: u32, b: u32) -> bool
-    ensures { result ≡ names_compact a b edge }
+fn outer_found(outer: &[OuterEdge], a: u32, b: u32) -> Option<usize>
+    ensures { result ≡ position (names_outer a b) outer.now }
 {
-    edge.a == a && edge.b == b
-}
-
-fn names_outer(edge: OuterEdge, a: u32, b: u32) -> bool
-    ensures { result ≡ names_outer a b edge }
-{
-    edge.a == a && edge.b == b
+    outer.iter().position(|edge| edge.a == a && edge.b == b)
 }

@@ -9,6 +9,7 @@ ghost use Rattle.tv_web.specs.Edges.{compact_of, outer_of, compact_pair, outer_p
 use crate::owners::{Found, owners_of};
 use crate::triples;
 use std::alloc::{AllocError, Global};
+use tv_spec_plane::limits::{MOST_POINTS, MOST_TRIANGLES};
 use tv_spec_plane::records::{CompactEdge, OuterEdge, Triple};
 
 /// Both lists of edges.
@@ -22,8 +23,8 @@ pub struct Edges {
 
 /// The edges among the first `count` points.
 pub fn edges_of(alloc: Global, triangles: &[Triple], count: u32) -> Result<Edges, AllocError>
-    requires few_triangles { length triangles.now ≤ 128 }
-    requires few_points { count ≤ 64 }
+    requires few_triangles { length triangles.now ≤ MOST_TRIANGLES }
+    requires few_points { count ≤ MOST_POINTS }
     ensures compact { IfOk result (λ edges. edges.compact.items ≡ gathered (compact_row triangles.now count) 0 count) }
     ensures outer { IfOk result (λ edges. edges.outer.items ≡ gathered (outer_row triangles.now count) 0 count) }
 {
@@ -39,8 +40,8 @@ pub fn edges_of(alloc: Global, triangles: &[Triple], count: u32) -> Result<Edges
 
 // The edges of a point with the later ones.
 fn push_row(edges: &mut Edges, triangles: &[Triple], a: u32, count: u32) -> Result<(), AllocError>
-    requires few_triangles { length triangles.now ≤ 128 }
-    requires few_points { count ≤ 64 }
+    requires few_triangles { length triangles.now ≤ MOST_TRIANGLES }
+    requires few_points { count ≤ MOST_POINTS }
     requires within { a < count }
     ensures compact { OnOk result (edges.new.compact.items ≡ edges.old.compact.items ++ compact_row triangles.now count a) }
     ensures outer { OnOk result (edges.new.outer.items ≡ edges.old.outer.items ++ outer_row triangles.now count a) }
@@ -54,7 +55,7 @@ fn push_row(edges: &mut Edges, triangles: &[Triple], a: u32, count: u32) -> Resu
 // The edge of two points, if there is one.
 #[tactic(auto, using(crate::proofs::Pairs::pairs))]
 fn push_edge(edges: &mut Edges, triangles: &[Triple], a: u32, b: u32) -> Result<(), AllocError>
-    requires { length triangles.now ≤ 128 }
+    requires { length triangles.now ≤ MOST_TRIANGLES }
     ensures compact { OnOk result (edges.new.compact.items ≡ edges.old.compact.items ++ compact_pair triangles.now a b) }
     ensures outer { OnOk result (edges.new.outer.items ≡ edges.old.outer.items ++ outer_pair triangles.now a b) }
 {

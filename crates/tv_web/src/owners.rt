@@ -4,6 +4,7 @@ ghost use Rattle.std.specs.Prelude.{◌≡◌, ◌≤◌, ◌<◌, length, cond}
 ghost use Rattle.tv_web.specs.Found.{owns, and_also, found_of, owners_in};
 
 use crate::triples;
+use tv_spec_plane::limits::MOST_TRIANGLES;
 use tv_spec_plane::records::Triple;
 
 /// How many triangles, and which.
@@ -22,7 +23,7 @@ pub enum Found {
 /// The triangles that have both points.
 #[tactic(auto, using(crate::proofs::Finding::finds_first))]
 pub fn owners_of(triangles: &[Triple], a: u32, b: u32) -> Found
-    requires { length triangles.now ≤ 128 }
+    requires { length triangles.now ≤ MOST_TRIANGLES }
     ensures { result ≡ found_of (owners_in triangles.now a b) }
 {
     let mut found = Found::Nothing;

@@ -5,6 +5,7 @@ ghost use Rattle.std.specs.List.{AllByRecursion};
 ghost use Rattle.tv_spec_plane.specs.Web.{compact, outer, corners};
 ghost use Rattle.tv_lattice.specs.Limits.{HasCoordinates};
 ghost use Rattle.tv_laws_edges.specs.Rule.{HasEdgeRule};
+ghost use Rattle.tv_laws_tiled_edges.specs.Laws.{NamesEdges};
 ghost use Rattle.tv_web.specs.Built.{bare_web};
 
 use crate::corners::corners_of;
@@ -12,6 +13,7 @@ use crate::edges::{Edges, edges_of};
 use std::alloc::{AllocError, Global};
 use std::marker::Model;
 use tv_lattice::point::Point;
+use tv_spec_plane::limits::{MOST_POINTS, MOST_TRIANGLES};
 use tv_spec_plane::records::{CompactEdge, Corner, OuterEdge, Triple};
 use tv_triangulation::Triangulation;
 
@@ -57,7 +59,7 @@ impl Web {
     /// The points, in the order of the triangulation: their numbers are those that triangles and edges name.
     pub fn points(&self) -> &[Point]
         ensures value { result.now ≡ self.now.points }
-        ensures few { length result.now ≤ 64 }
+        ensures few { length result.now ≤ MOST_POINTS }
     {
         &self.points
     }
@@ -65,7 +67,7 @@ impl Web {
     /// The triangles, turned counter-clockwise, in the order of the triangulation.
     pub fn triangles(&self) -> &[Triple]
         ensures value { result.now ≡ self.now.triangles }
-        ensures few { length result.now ≤ 128 }
+        ensures few { length result.now ≤ MOST_TRIANGLES }
     {
         &self.triangles
     }
@@ -93,9 +95,11 @@ impl Web {
         &self.corners
     }
 
-    /// Tells that every compact edge has its rule and that the coordinates are within their limit, and does nothing.
+    /// Tells that every compact edge has its rule, that each edge of a corner stands in its list and is that of its two
+    /// points, and that the coordinates are within their limit, and does nothing.
     pub fn known(&self)
         ensures rule { HasEdgeRule self.now }
+        ensures named { AllByRecursion (NamesEdges self.now) (corners self.now) }
         ensures coordinates { AllByRecursion HasCoordinates self.now.points }
     {
         let _ = self.points.len();

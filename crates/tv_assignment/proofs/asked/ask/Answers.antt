@@ -15,4 +15,4 @@ loop-corner-preserved c =
     let begins = c.start_of-start.ensures.value ∙ ap (λ ls. edge_costs w a -ℤ pos (overlaps_of ls)) (c.deref.ensures.value ∙ sym c.deref-corner-items.ensures.value) in
     let ends = read_left c.args.n start c.boxes_left-boxes.result c.requires.exponent c.start_of-start.ensures.bound c.boxes_left-boxes.ensures.value in
     let here = asks w c.args.n all c.args.k a legs c.corner-item.result c.loop-corner.corner-index start c.boxes_left-boxes.result c.requires.place read (c.deref-corner-items.ensures.value ∙ c.in_ok-legs.ensures.legs) c.loop-corner-test.true c.corner-item.is begins ends c.boxes_left-boxes.ensures.few in
-    rw (to_z-of_z w64 c.args.n c.ranges.n) (still-asked w c.args.n all c.loop-corner.asked.entries c.raise.new.asked.entries c.in_ok-key_of.field-0 _ c.corner-item.result c.in_ok-key_of.ensures here c.in_ok-raise.ensures.raised (rw (to_z-of_z w64 c.args.n c.ranges.n) at c.loop-corner.invariant))
+    rw (to_z-of_z w64 c.args.n c.ranges.n) (still-asked w c.args.n all c.loop-corner.asked.entries c.raise.new.asked.entries c.corner-item.result _ here c.in_ok-raise.ensures.raised (rw (to_z-of_z w64 c.args.n c.ranges.n) at c.loop-corner.invariant))

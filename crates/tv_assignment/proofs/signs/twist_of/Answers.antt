@@ -1,6 +1,7 @@
 use Rattle.std.proofs.Common.{◌≡◌, ◌+◌, ◌∙◌, ap, arith, length, get_or, w64, to_z}
 use Rattle.tv_spec_plane.specs.Web.{compact}
-use Rattle.tv_assignment.proofs.Summed.{twist_by, twists-are, summed-next, summed-last, summed-bound, read_total}
+use Rattle.tv_spec_boxes.specs.Assignments.{twist_by}
+use Rattle.tv_assignment.proofs.Summed.{summed-next, summed-last, summed-bound, read_total}
 use Rattle.tv_assignment.proofs.signs.twist_of.Goals as goal
 
 pub loop-e-preserved : goal.loop-e-preserved
@@ -17,4 +18,4 @@ loop-e-preserved c =
 pub returns-clause-value : goal.returns-clause-value
 returns-clause-value c =
     let listed : length c.compact.result.now ≡ length (compact c.args.web.now) = ap length c.compact.ensures.value in
-    summed-last (twist_by c.args.web.now) 402 (compact c.args.web.now) c.args.assignment.now c.loop-e.e _ (omega arith) c.loop-e.invariant ∙ twists-are c.args.web.now (compact c.args.web.now) c.args.assignment.now
+    summed-last (twist_by c.args.web.now) 402 (compact c.args.web.now) c.args.assignment.now c.loop-e.e _ (omega arith) c.loop-e.invariant

@@ -1,5 +1,6 @@
 use Rattle.tv_spec_plane.specs.Web.{compact}
-use Rattle.tv_assignment.proofs.Summed.{IsSummed, twist_by}
+use Rattle.tv_spec_boxes.specs.Assignments.{twist_by}
+use Rattle.tv_assignment.proofs.Summed.{IsSummed}
 use Rattle.tv_assignment.proofs.signs.twist_of.Given as goal
 
 abbrev pub invariant-loop-e : goal.invariant-loop-e

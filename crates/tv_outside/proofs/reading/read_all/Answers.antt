@@ -7,9 +7,9 @@ pub returns-then-count-limit : goal.returns-then-count-limit
 returns-then-count-limit g c =
     let given = c.in-Ok.ensures in
     let asked = length-take c.min-room.result c.reads.buffer in
-    too_long _ _ _ _ _ _ _ _ _ c.reads.invariant given.bytes.0 given.cause.kept (omega (arith, asked, given.bound.0, given.bound.1))
+    too_long _ _ _ _ _ _ c.reads.invariant given.bytes.0 given.counted.call given.counted.kept (omega (arith, asked, given.bound.0, given.bound.1))
 
 pub returns-then-is_err : goal.returns-then-is_err
 returns-then-is_err g c =
     let given = c.in-Ok.ensures in
-    no_memory _ _ _ _ _ _ _ _ _ c.reads.invariant given.bytes.0 given.cause.kept (omega (arith, given.bound.1))
+    no_memory _ _ _ _ _ _ c.reads.invariant given.bytes.0 given.counted.call given.counted.kept (omega (arith, given.bound.1))

@@ -5,7 +5,7 @@ use Rattle.tv_outside.proofs.reading.read_all.Given as goal
 
 abbrev pub invariant-reads : goal.invariant-reads
 invariant-reads g l =
-    ReadsSoFar (g.S.Source.left l.initial.source) (g.S.Source.left l.source) (g.S.Source.faults l.initial.source) (g.S.Source.faults l.source) l.limit l.bytes.items
+    ReadsSoFar (g.S.Source.seen l.initial.source) (g.S.Source.seen l.source) l.limit l.bytes.items
 
 abbrev pub decreases-reads : goal.decreases-reads
 decreases-reads g l = l.limit - vec_len l.bytes

@@ -2,9 +2,9 @@ use Rattle.std.proofs.Common.{◌≡◌, ◌+◌, ◌-◌, ◌++◌, ◌∷◌, 
 use Rattle.std.specs.Prelude.{cond}
 use Rattle.std.proofs.lemmas.Result.{err_from_is_err_and}
 use Rattle.tv_cells.specs.Extras.{is_extras}
-use Rattle.tv_vertex.specs.Rest.{rest, enters, leaves_gap}
-use Rattle.tv_vertex.proofs.Cuts.{rest-refused}
-use Rattle.tv_vertex.proofs.Remaining.{rest-done, rest-step}
+use Rattle.tv_cells.specs.Cuts.{enters, leaves_gap}
+use Rattle.tv_vertex.specs.Rest.{rest}
+use Rattle.tv_vertex.proofs.Remaining.{rest-done, rest-step, rest-refused}
 use Rattle.tv_vertex.proofs.Steps.{Step, step-sum, step-rises, step-gap, step-end}
 use Rattle.tv_vertex.proofs.Tallied.{times-sum, part-wide, sum-wide}
 use Rattle.tv_vertex.proofs.listing.+counting.Goals as goal

@@ -3,8 +3,28 @@ use Rattle.std.specs.Int.{int_min}
 use Rattle.std.proofs.lemmas.Int.{ints, clamps}
 use Rattle.tv_laws_series.specs.Terms.{terms, above}
 use Rattle.tv_laws_series.proofs.Exponents.{above_is}
-use Rattle.tv_laurent.proofs.PolyResults.{sum_row, sum_fault, length_is}
+use Rattle.tv_laws_series.proofs.PolyRing.{poly_laws}
+use Rattle.tv_laurent.proofs.PolyResults.{sum-zero, sum_row, sum_fault, length_is}
 use Rattle.tv_laurent.proofs.poly.LPolyRing.add.Goals as goal
+
+pub returns-then-len-eq0-clause-value : goal.returns-then-len-eq0-clause-value
+returns-then-len-eq0-clause-value g c =
+    let a = terms c.self.inside.low c.self.inside.coefficients.items in let b = terms c.other.inside.low c.other.inside.coefficients.items in
+    let laws = g.met.C.Ring.laws in let none : length b.coefficients ≡ 0 = omega arith in
+    let e = sum-zero laws a b c.self.invariant.normal_form c.other.invariant.normal_form none in
+    rw (← c.self.view_is, ← c.other.view_is, e) (rw (← c.self.view_is) at c.copy.ensures.value)
+
+pub returns-then-len-eq0-2-clause-value : goal.returns-then-len-eq0-2-clause-value
+returns-then-len-eq0-2-clause-value g c =
+    let a = terms c.self.inside.low c.self.inside.coefficients.items in let b = terms c.other.inside.low c.other.inside.coefficients.items in
+    let laws = g.met.C.Ring.laws in let none : length a.coefficients ≡ 0 = omega arith in
+    let na = c.self.invariant.normal_form in let nb = c.other.invariant.normal_form in
+    let e = (poly_laws laws).add_comm a b na nb ∙ sum-zero laws b a nb na none in
+    rw (← c.self.view_is, ← c.other.view_is, e) (rw (← c.other.view_is) at c.copy-then-len-eq0-2.ensures.value)
+
+pub sums-requires-clause-low : goal.sums-requires-clause-low
+sums-requires-clause-low g c =
+    let la = c.self.invariant.bounded.low in let lb = c.other.invariant.bounded.low in omega (arith, ints, clamps)
 
 pub sums-requires-clause-count : goal.sums-requires-clause-count
 sums-requires-clause-count g c =

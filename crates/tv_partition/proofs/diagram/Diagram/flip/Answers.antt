@@ -9,6 +9,9 @@ made c = c.in_ok-rows.ensures ∙ ap flipped c.as_slice.ensures.value
 pub invariant_of-result : goal.invariant_of-result
 invariant_of-result c = rw (made c) (flipped-small c.self.inside.rows.items c.self.invariant)
 
+pub returns-clause-rows : goal.returns-clause-rows
+returns-clause-rows c = made c ∙ ap flipped c.self.view_is
+
 pub returns-clause-exchanged : goal.returns-clause-exchanged
 returns-clause-exchanged c =
     λ i j. ap (λ rows. has rows j i) (made c) ∙ (flipped-has c.self.inside.rows.items c.self.invariant.0 i j ∙ ap (λ rows. has rows i j) c.self.view_is)
