@@ -46,12 +46,12 @@ plane_inner_cell = refl
 
 -- the third edge, whose first corner comes last, is met by the second: 1, -3
 plane_third_cell : map (partial_count local_p2 2 ([] ∷ (1 ∷ []) ∷ []) (negsuc 2 ∷ pos 1 ∷ pos 1 ∷ pos 1 ∷ [])) (pos 0 ∷ pos 1 ∷ pos 2 ∷ []) ≡ pos 0 ∷ pos 1 ∷ negsuc 2 ∷ []
-unfolding local_p2 partial_count fillings total assignments choices compact outer edge_ref edge_ratio turn diagrams diagrams_within cube sublists_of row_cost rows_cost overlap_cost overlaps
+unfolding local_p2 partial_count fillings assignments choices compact outer edge_ref edge_ratio turn diagrams diagrams_within cube sublists_of row_cost rows_cost overlap_cost overlaps
 plane_third_cell = refl
 
 -- before all corners there is the configuration of nothing alone
 plane_none : map (λ v. map (partial_count local_p2 0 [] v) (pos 0 ∷ pos 1 ∷ [])) ((pos 0 ∷ pos 0 ∷ pos 0 ∷ pos 0 ∷ []) ∷ (negsuc 2 ∷ pos 1 ∷ pos 1 ∷ pos 1 ∷ []) ∷ []) ≡ (pos 1 ∷ pos 0 ∷ []) ∷ (pos 0 ∷ pos 0 ∷ []) ∷ []
-unfolding local_p2 partial_count fillings total assignments choices compact outer edge_ref edge_ratio turn diagrams diagrams_within cube sublists_of row_cost rows_cost overlap_cost overlaps
+unfolding local_p2 partial_count fillings assignments choices compact outer edge_ref edge_ratio turn diagrams diagrams_within cube sublists_of row_cost rows_cost overlap_cost overlaps
 plane_none = refl
 
 -- after all three it has its signed counts
