@@ -54,8 +54,7 @@ sizes-first now front g gs degrees d e =
 
 pub sizes-next : (now next whole : List Assignment) (front : List Rows) (g : ℕ) (gs : List ℕ) (d n : ℕ) → n < d + 1 → next ≡ now ++ sized front gs d g n → now ++ flat_map (sized front gs d g) (range_with_len n ((d + 1) - n)) ≡ whole → next ++ flat_map (sized front gs d g) (range_with_len (n + 1) ((d + 1) - (n + 1))) ≡ whole
 sizes-next now next whole front g gs d n h pushed before =
-    let up : n + 1 ≡ suc n = omega arith in
-    rw (up, pushed) (append_assoc now (sized front gs d g n) (flat_map (sized front gs d g) (range_with_len (suc n) ((d + 1) - suc n)))
+    rw pushed (append_assoc now (sized front gs d g n) (flat_map (sized front gs d g) (range_with_len (n + 1) ((d + 1) - (n + 1))))
     ∙ (sym (ap (λ is. now ++ flat_map (sized front gs d g) is) (range_with_len-step n (d + 1) h)) ∙ before))
 
 pub sizes-last : (now whole : List Assignment) (front : List Rows) (g : ℕ) (gs : List ℕ) (d n : ℕ) → d + 1 ≤ n → now ++ flat_map (sized front gs d g) (range_with_len n ((d + 1) - n)) ≡ whole → now ≡ whole
