@@ -27,34 +27,66 @@ pub fn full<C: Ring>(alloc: Global, web: &GradedWeb, d: u32, n: i64) -> Result<G
     // Wide only with a class whose crowd, times the size of one, exceeds the limit.
     ensures wide { IfErr result (λ e. OnWide e (IsCrowded C.ring web.now d n)) }
 {
+    let mut corners = Corners::new(alloc);
+    full_over(alloc, web, d, n, &mut corners)
+}
+
+/// The same from the series of corners that are kept, so that none is computed again that is known far enough. What was
+/// computed is kept besides, also on an error.
+pub fn full_over<C: Ring>(
+    alloc: Global,
+    web: &GradedWeb,
+    d: u32,
+    n: i64,
+    corners: &mut Corners<C>,
+) -> Result<Graded<C>, GlueFault>
+    requires degree { d ≤ 24 }
+    requires order { unsigned_abs n ≤ 100000000 }
+    ensures full { IfOk result (λ family. IsFull C.ring web.now (no_legs web.now) d n family) }
+    ensures wide { IfErr result (λ e. OnWide e (IsCrowded C.ring web.now d n)) }
+{
     web.known();
     let all = assignments_of(alloc, web, d)?;
-    let mut corners = prepared(alloc, web, &all, d, n)?;
     let mut family = without_classes(alloc, web, d, n)?;
+    let summands = Summands {
+        web,
+        all: &all,
+        d,
+        n,
+    };
+    prepare(alloc, &summands, corners)?;
     for k in 0..all.len() {
-        add(alloc, web, &all, k, d, n, &mut corners, &mut family)?;
+        add(alloc, &summands, k, corners, &mut family)?;
     }
     family.known();
     Ok(family)
 }
 
-// The corners of all assignments, each computed as far as one of them asks for it.
-fn prepared<C: Ring>(
-    alloc: Global,
-    web: &GradedWeb,
-    all: &[Assignment],
+// What is added up: the assignments of degree at most d of a web, each through the exponent n.
+#[derive(Drop)]
+struct Summands<'a> {
+    web: &'a GradedWeb,
+    all: &'a [Assignment],
     d: u32,
     n: i64,
-) -> Result<Corners<C>, GlueFault>
-    requires degree { d ≤ 24 }
-    requires order { unsigned_abs n ≤ 100000000 }
-    requires listed { all.now ≡ assignments web.now d }
-    ensures wide { IfErr result (λ e. OnWide e (IsCrowded C.ring web.now d n)) }
+}
+
+// The corners of all assignments, each computed as far as one of them asks for it.
+fn prepare<C: Ring>(
+    alloc: Global,
+    summands: &Summands,
+    corners: &mut Corners<C>,
+) -> Result<(), GlueFault>
+    requires degree { summands.now.d ≤ 24 }
+    requires order { unsigned_abs summands.now.n ≤ 100000000 }
+    requires listed { summands.now.all.now ≡ assignments summands.now.web.now summands.now.d }
+    ensures wide { IfErr result (λ e. OnWide e (IsCrowded C.ring summands.now.web.now summands.now.d summands.now.n)) }
 {
+    let web = summands.web;
+    let all = summands.all;
     web.known();
-    let mut corners = Corners::new(alloc);
-    match corners.prepare(alloc, web, all, n) {
-        Ok(()) => Ok(corners),
+    match corners.prepare(alloc, web, all, summands.n) {
+        Ok(()) => Ok(()),
         Err(PrepareFault::Wide(k)) => Err(GlueFault::Wide(class_of(alloc, web, &all[k])?)),
         Err(PrepareFault::Memory) => Err(GlueFault::Memory),
     }
@@ -77,27 +109,26 @@ fn without_classes<C: Ring>(
 // Adds the series of assignment number k into its class.
 fn add<C: Ring>(
     alloc: Global,
-    web: &GradedWeb,
-    all: &[Assignment],
+    summands: &Summands,
     k: usize,
-    d: u32,
-    n: i64,
     corners: &mut Corners<C>,
     family: &mut Graded<C>,
 ) -> Result<(), GlueFault>
-    requires degree { d ≤ 24 }
-    requires order { unsigned_abs n ≤ 100000000 }
-    requires listed { all.now ≡ assignments web.now d }
-    requires place { k < length all.now }
-    requires glued { IsGlued C.ring web.now (no_legs web.now) d n (take k all.now) family.old }
-    ensures glued { OnOk result (IsGlued C.ring web.now (no_legs web.now) d n (take (k + 1) all.now) family.new) }
-    ensures wide { IfErr result (λ e. OnWide e (IsCrowded C.ring web.now d n)) }
+    requires degree { summands.now.d ≤ 24 }
+    requires order { unsigned_abs summands.now.n ≤ 100000000 }
+    requires listed { summands.now.all.now ≡ assignments summands.now.web.now summands.now.d }
+    requires place { k < length summands.now.all.now }
+    requires glued { IsGlued C.ring summands.now.web.now (no_legs summands.now.web.now) summands.now.d summands.now.n (take k summands.now.all.now) family.old }
+    ensures glued { OnOk result (IsGlued C.ring summands.now.web.now (no_legs summands.now.web.now) summands.now.d summands.now.n (take (k + 1) summands.now.all.now) family.new) }
+    ensures wide { IfErr result (λ e. OnWide e (IsCrowded C.ring summands.now.web.now summands.now.d summands.now.n)) }
 {
+    let web = summands.web;
+    let all = summands.all;
     web.known();
     family.known();
     let assignment = &all[k];
     let class = class_of(alloc, web, assignment)?;
-    let series = match assignment_series(alloc, web, corners, assignment, n) {
+    let series = match assignment_series(alloc, web, corners, assignment, summands.n) {
         Ok(series) => series,
         Err(RingFault::Wide) => return Err(GlueFault::Wide(class)),
         Err(RingFault::Memory) => return Err(GlueFault::Memory),

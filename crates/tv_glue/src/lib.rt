@@ -7,7 +7,7 @@ mod fault;
 mod glued;
 
 pub use fault::GlueFault;
-pub use glued::full;
+pub use glued::{full, full_over};
 
 #[cfg(test)]
 mod tests;

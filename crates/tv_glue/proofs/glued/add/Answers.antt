@@ -1,5 +1,6 @@
-use Rattle.std.proofs.Common.{Err, ap, w64}
+use Rattle.std.proofs.Common.{Err, ap, w64, arith}
 use Rattle.std.proofs.lemmas.Int.{to_z-of_z}
+use Rattle.tv_lattice.proofs.Sums.{small-fits}
 use Rattle.tv_glue.proofs.Adding.{is_next, next-one_each, next-few, next-place, next-upto, next-glued, next-crowded, next-too_many}
 use Rattle.tv_glue.proofs.glued.add.Goals as goal
 
@@ -21,15 +22,15 @@ assignment_series-requires-clause-few g c =
 
 pub returns-in-Err-Wide-clause-wide : goal.returns-in-Err-Wide-clause-wide
 returns-in-Err-Wide-clause-wide g c =
-    next-too_many (is_next c.known.ensures.graded c.known.ensures.heighted c.requires.listed c.requires.place c.index-all-k.is) g.C.Ring.ring c.args.n c.in_ok-class.class c.in_ok-class.ensures (rw (to_z-of_z w64 c.args.n c.ranges.n) at (c.in-Err-Wide.ensures.wide (ap Err c.in-Err-Wide.field-0-is)))
+    next-too_many (is_next c.known.ensures.graded c.known.ensures.heighted c.requires.listed c.requires.place c.index-all-k.is) g.C.Ring.ring c.args.summands.now.n c.in_ok-class.class c.in_ok-class.ensures (rw (to_z-of_z w64 c.args.summands.now.n (small-fits c.args.summands.now.n (omega (arith, c.requires.order)))) at (c.in-Err-Wide.ensures.wide (ap Err c.in-Err-Wide.field-0-is)))
 
 pub add_into-requires-clause-place : goal.add_into-requires-clause-place
 add_into-requires-clause-place g c =
-    next-place (is_next c.known.ensures.graded c.known.ensures.heighted c.requires.listed c.requires.place c.index-all-k.is) g.C.Ring.ring c.args.n c.in-Ok.series (rw (to_z-of_z w64 c.args.n c.ranges.n) at c.in-Ok.ensures.value) c.args.family.now c.in_ok-class.class c.in_ok-class.ensures c.requires.glued
+    next-place (is_next c.known.ensures.graded c.known.ensures.heighted c.requires.listed c.requires.place c.index-all-k.is) g.C.Ring.ring c.args.summands.now.n c.in-Ok.series (rw (to_z-of_z w64 c.args.summands.now.n (small-fits c.args.summands.now.n (omega (arith, c.requires.order)))) at c.in-Ok.ensures.value) c.args.family.now c.in_ok-class.class c.in_ok-class.ensures c.requires.glued
 
 pub add_into-requires-clause-known : goal.add_into-requires-clause-known
 add_into-requires-clause-known g c =
-    next-upto (is_next c.known.ensures.graded c.known.ensures.heighted c.requires.listed c.requires.place c.index-all-k.is) g.C.Ring.ring c.args.n c.in-Ok.series (rw (to_z-of_z w64 c.args.n c.ranges.n) at c.in-Ok.ensures.value) c.args.family.now c.requires.glued
+    next-upto (is_next c.known.ensures.graded c.known.ensures.heighted c.requires.listed c.requires.place c.index-all-k.is) g.C.Ring.ring c.args.summands.now.n c.in-Ok.series (rw (to_z-of_z w64 c.args.summands.now.n (small-fits c.args.summands.now.n (omega (arith, c.requires.order)))) at c.in-Ok.ensures.value) c.args.family.now c.requires.glued
 
 pub class_of-requires-in-Err-Wide-add_into-clause-one_each : goal.class_of-requires-in-Err-Wide-add_into-clause-one_each
 class_of-requires-in-Err-Wide-add_into-clause-one_each g c =
@@ -41,8 +42,8 @@ class_of-requires-in-Err-Wide-add_into-clause-few g c =
 
 pub returns-in-Ok-add_into-clause-glued : goal.returns-in-Ok-add_into-clause-glued
 returns-in-Ok-add_into-clause-glued g c =
-    next-glued (is_next c.known.ensures.graded c.known.ensures.heighted c.requires.listed c.requires.place c.index-all-k.is) g.C.Ring.ring c.args.n c.in-Ok.series (rw (to_z-of_z w64 c.args.n c.ranges.n) at c.in-Ok.ensures.value) g.met.C.Ring.laws c.args.family.now c.add_into.new.self c.in_ok-class.class c.in_ok-class.ensures c.known-2.ensures.family c.known-3.ensures.value c.requires.glued c.in-Ok-add_into.ensures.ok
+    next-glued (is_next c.known.ensures.graded c.known.ensures.heighted c.requires.listed c.requires.place c.index-all-k.is) g.C.Ring.ring c.args.summands.now.n c.in-Ok.series (rw (to_z-of_z w64 c.args.summands.now.n (small-fits c.args.summands.now.n (omega (arith, c.requires.order)))) at c.in-Ok.ensures.value) g.met.C.Ring.laws c.args.family.now c.add_into.new.self c.in_ok-class.class c.in_ok-class.ensures c.known-2.ensures.family c.known-3.ensures.value c.requires.glued c.in-Ok-add_into.ensures.ok
 
 pub returns-in_ok-class_of-in-Err-Wide-add_into-clause-wide : goal.returns-in_ok-class_of-in-Err-Wide-add_into-clause-wide
 returns-in_ok-class_of-in-Err-Wide-add_into-clause-wide g c =
-    next-crowded (is_next c.known.ensures.graded c.known.ensures.heighted c.requires.listed c.requires.place c.index-all-k.is) g.C.Ring.ring c.args.n c.in-Ok.series (rw (to_z-of_z w64 c.args.n c.ranges.n) at c.in-Ok.ensures.value) g.met.C.Ring.laws g.met.C.Ring.sizes c.args.family.now c.in_ok-class.class c.in_ok-class_of-in-Err-Wide-add_into.field-0 _ c.in_ok-class.ensures c.in_ok-class_of-in-Err-Wide-add_into.ensures c.requires.glued (rw c.in-Err-Wide-add_into.field-0-is at c.in-Err-Wide-add_into.ensures.wide)
+    next-crowded (is_next c.known.ensures.graded c.known.ensures.heighted c.requires.listed c.requires.place c.index-all-k.is) g.C.Ring.ring c.args.summands.now.n c.in-Ok.series (rw (to_z-of_z w64 c.args.summands.now.n (small-fits c.args.summands.now.n (omega (arith, c.requires.order)))) at c.in-Ok.ensures.value) g.met.C.Ring.laws g.met.C.Ring.sizes c.args.family.now c.in_ok-class.class c.in_ok-class_of-in-Err-Wide-add_into.field-0 _ c.in_ok-class.ensures c.in_ok-class_of-in-Err-Wide-add_into.ensures c.requires.glued (rw c.in-Err-Wide-add_into.field-0-is at c.in-Err-Wide-add_into.ensures.wide)
