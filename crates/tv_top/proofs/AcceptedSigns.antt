@@ -1,20 +1,37 @@
 -- The edge rule of an accepted file's web, whose triangles are the file's own turned, and the signs that follow.
-use Rattle.std.proofs.Common.{sym, subst}
+use Rattle.std.proofs.Common.{◌≡◌, ℕ, ℤ, pos, negsuc, Bool, true, false, length, ap, sym, ◌∙◌, arith, subst}
+use Rattle.std.specs.Prelude.{◌+ℤ◌, ◌*ℤ◌, unsigned_abs, cond, nat_eq}
+use Rattle.std.proofs.lemmas.Int.{ints}
+use Rattle.tv_spec_plane.specs.Web.{even_sum, parity}
+use Rattle.tv_spec_boxes.specs.Configurations.{configurations}
 use Rattle.tv_laws_edges.specs.Rule.{HasEdgeRule}
 use Rattle.tv_laws_tiled_edges.proofs.Rules.{has_edge_rule}
 use Rattle.tv_laws_tiled_edges.proofs.Turned.{tiled-turned}
-use Rattle.tv_laws_signs.proofs.Signs.{configuration_has_sign}
+use Rattle.tv_laws_signs.proofs.Signs.{configuration_has_sign, counted_sign}
 use Rattle.tv_laws_signs.proofs.PartialSigns.{partial_has_sign}
 use Rattle.tv_top.specs.Acceptance.{turned_web}
-use Rattle.tv_top.specs.Laws.{AcceptedHasEdgeRule, AcceptedConfigurationSign, AcceptedPartialSign}
+use Rattle.tv_top.specs.Laws.{AcceptedHasEdgeRule, AcceptedConfigurationSign, AcceptedPartialSign, AcceptedNoneCancels, AcceptedSizeIsNumber}
 
 pub accepted_rule : AcceptedHasEdgeRule
 accepted_rule bytes w accepted =
     let file = accepted.file in
-    subst HasEdgeRule (sym accepted.turned) (has_edge_rule (turned_web file) accepted.text.2.coordinates (tiled-turned file.points file.triangles accepted.tiled))
+    subst HasEdgeRule (sym accepted.sound.turned) (has_edge_rule (turned_web file) accepted.text.2.coordinates (tiled-turned file.points file.triangles accepted.sound.tiled))
 
 pub accepted_sign : AcceptedConfigurationSign
 accepted_sign bytes w fixed c accepted = configuration_has_sign w fixed c (accepted_rule bytes w accepted)
 
 pub accepted_partial_sign : AcceptedPartialSign
 accepted_partial_sign bytes w t c accepted = partial_has_sign w t c (accepted_rule bytes w accepted)
+
+pub accepted_number : AcceptedNoneCancels
+accepted_number bytes w fixed v n accepted = counted_sign w fixed v n (accepted_rule bytes w accepted)
+
+-- the absolute value of a number with a sign
+signed-size : (b : Bool) (k : ℕ) → unsigned_abs (cond b (pos 1) (negsuc 0) *ℤ pos k) ≡ k
+signed-size true k = omega (arith, ints)
+signed-size false k = omega (arith, ints)
+
+pub accepted_size : AcceptedSizeIsNumber
+accepted_size bytes w fixed v n accepted =
+    ap unsigned_abs (accepted_number bytes w fixed v n accepted)
+    ∙ signed-size (nat_eq (parity (n +ℤ even_sum w.points v)) 0) (length (configurations w fixed v n))

@@ -1,5 +1,5 @@
 -- Completeness follows from the answers: what is accepted isn't refused, and what is a command has no place outside.
-use Rattle.std.proofs.Common.{◌≡◌, ◌⊎◌, inl, inr, ℕ, ◌≤◌, ℤ, pos, negsuc, List, [], ◌∷◌, ◌++◌, length, Option, Some, None, refl, ap, sym, ◌∙◌, arith, subst, length-append, append-nil}
+use Rattle.std.proofs.Common.{◌≡◌, ◌⊎◌, inl, inr, ℕ, ◌≤◌, ℤ, pos, List, [], ◌∷◌, ◌++◌, length, Option, Some, None, refl, ap, sym, ◌∙◌, arith, subst, length-append, append-nil}
 use Rattle.std.specs.Io.KnownBytes.{Consumes, IsAtEnd}
 use Rattle.std.proofs.lemmas.Int.{ints}
 use Rattle.std.proofs.lemmas.Bool.{true≢false}
@@ -15,7 +15,7 @@ use Rattle.tv_lattice.specs.Limits.{IsWithinLimits}
 use Rattle.tv_triangulation.specs.Triangulated.{IsTiled}
 use Rattle.tv_triangulation.proofs.Accepted.{tiling_triangles_pass}
 use Rattle.tv_spec_plane.specs.Graded.{IsGraded}
-use Rattle.tv_outside.specs.Faults.{Rose}
+use Rattle.tv_outside.specs.Faults.{Rose, RoseOnce}
 use Rattle.tv_text.specs.declared.series.Kind.{Kind}
 use Rattle.tv_text.specs.declared.series.Kind.TheVariants.{Full, Reduced}
 use Rattle.tv_text.specs.Sections.{kind_word}
@@ -23,8 +23,9 @@ use Rattle.tv_top.specs.Commands.{IsDegree, IsOrder, IsSeries, IsCommand, Asks, 
 use Rattle.tv_top.specs.Acceptance.{turned_web, IsAccepted, IsUnsoundBy}
 use Rattle.tv_top.specs.Reports.{IsWide}
 use Rattle.tv_top.specs.Rejections.{FaultOf, IsWebFault}
-use Rattle.tv_top.specs.Answers.{Inputs, Outputs, Gave, Deserves, DeservesFile, Told, Answers}
+use Rattle.tv_top.specs.Answers.{Change, Gave, Deserves, DeservesFile, Told, Answers}
 use Rattle.tv_top.specs.Completeness.{Completes, IsTooWide}
+use Rattle.tv_top.specs.declared.command.TheConstants.{MAX_DEGREE, MIN_ORDER, MAX_ORDER}
 use Rattle.tv_top.specs.declared.command.Command.{Command}
 use Rattle.tv_top.specs.declared.command.Command.TheVariants.{Check, Series}
 use Rattle.tv_top.specs.declared.status.Status.{Status}
@@ -50,10 +51,10 @@ sound_or_unsound w (Bare a b) l t h g x = tiling_triangles_pass w.points w.trian
 
 web_or_fault : (bytes : List ℕ) (w : Web) (f : FileFault) → IsAccepted bytes w → IsWebFault bytes f → ⊥
 web_or_fault bytes w f a x = let same : x.web ≡ a.file = Spells-unique (word_lines bytes) x.web a.file x.text.1 a.text.1 in
-    sound_or_unsound a.file f a.text.2 a.tiled a.heights (subst IsGraded a.turned a.graded) (subst (λ v. IsUnsoundBy v f) same x.unsound)
+    sound_or_unsound a.file f a.text.2 a.sound.tiled a.sound.heights (subst IsGraded a.sound.turned a.sound.graded) (subst (λ v. IsUnsoundBy v f) same x.unsound)
 
 -- what is taken isn't refused
-accepted_or_fault : (bytes : List ℕ) (w : Web) (f : FileFault) → IsAccepted bytes w → FaultOf bytes f → ⊥
+pub accepted_or_fault : (bytes : List ℕ) (w : Web) (f : FileFault) → IsAccepted bytes w → FaultOf bytes f → ⊥
 accepted_or_fault bytes w TooLong a x = IsText-accepted bytes a.file TooLong a.text x
 accepted_or_fault bytes w Json a x = true≢false (sym x.1 ∙ a.not_json)
 accepted_or_fault bytes w (Line n) a x = IsText-accepted bytes a.file (Line n) a.text x.1
@@ -69,8 +70,8 @@ accepted_or_fault bytes w (HeightCount k) a x = web_or_fault bytes w (HeightCoun
 accepted_or_fault bytes w (Degree i j d) a x = web_or_fault bytes w (Degree i j d) a x
 
 -- bytes are accepted as one web
-same_web : (bytes : List ℕ) (v w : Web) → IsAccepted bytes v → IsAccepted bytes w → v ≡ w
-same_web bytes v w a b = a.turned ∙ (ap turned_web (Spells-unique (word_lines bytes) a.file b.file a.text.1 b.text.1) ∙ sym b.turned)
+pub same_web : (bytes : List ℕ) (v w : Web) → IsAccepted bytes v → IsAccepted bytes w → v ≡ w
+same_web bytes v w a b = a.sound.turned ∙ (ap turned_web (Spells-unique (word_lines bytes) a.file b.file a.text.1 b.text.1) ∙ sym b.sound.turned)
 
 -- the bytes that a source tells are those that were taken
 all_of_told : (before after : Option (List ℕ)) (told bytes : List ℕ) → before ≡ Some told → Consumes before after bytes → IsAtEnd after → told ≡ bytes
@@ -78,8 +79,11 @@ all_of_told None after told bytes e c n = cc
 all_of_told (Some xs) None told bytes e c n = absurd c
 all_of_told (Some xs) (Some ys) told bytes e c n = let same : xs ≡ told = cc in sym same ∙ (c ∙ (ap (λ zs. bytes ++ zs) n ∙ append-nil bytes))
 
-told_bytes : (io : Inputs) (told bytes : List ℕ) → io.before ≡ Some told → Gave io bytes → told ≡ bytes
-told_bytes io told bytes e g = all_of_told io.before io.after told bytes e g.taken g.ended
+told_bytes : (io : Change) (told bytes : List ℕ) → io.before.bytes ≡ Some told → Gave io bytes → told ≡ bytes
+told_bytes io told bytes e g = all_of_told io.before.bytes io.after.bytes told bytes e g.taken g.ended
+
+rose-once : (before now : ℕ) → RoseOnce before now → Rose before now
+rose-once before now h = omega arith
 
 second_word : {a b c d e f g h : Word} → a ∷ b ∷ c ∷ d ∷ [] ≡ e ∷ f ∷ g ∷ h ∷ [] → b ≡ f
 second_word e = cc
@@ -101,11 +105,11 @@ same_kind Reduced Reduced e = refl
 
 same_degree : (d e : ℕ) → IsDegree d → IsDegree e → spelled (pos d) ≡ spelled (pos e) → d ≡ e
 same_degree d e p q s =
-    let same : pos d ≡ pos e = spelled_injective (pos d) (pos e) (between_is_number (pos 0) (pos 24) (pos d) (omega arith) (omega arith) p) (between_is_number (pos 0) (pos 24) (pos e) (omega arith) (omega arith) q) s in
+    let same : pos d ≡ pos e = spelled_injective (pos d) (pos e) (between_is_number (pos 0) MAX_DEGREE (pos d) (omega arith) (omega arith) p) (between_is_number (pos 0) MAX_DEGREE (pos e) (omega arith) (omega arith) q) s in
     omega (arith, ints)
 
 same_order : (y z : ℤ) → IsOrder y → IsOrder z → spelled y ≡ spelled z → y ≡ z
-same_order y z p q s = spelled_injective y z (between_is_number (negsuc 63) (pos 64) y (omega arith) (omega arith) p) (between_is_number (negsuc 63) (pos 64) z (omega arith) (omega arith) q) s
+same_order y z p q s = spelled_injective y z (between_is_number MIN_ORDER MAX_ORDER y (omega arith) (omega arith) p) (between_is_number MIN_ORDER MAX_ORDER z (omega arith) (omega arith) q) s
 
 not_both : (kind : Kind) (d : ℕ) (upto : ℤ) → check_words ≡ series_words kind d upto → ⊥
 not_both kind d upto e = let lengths : length check_words ≡ length (series_words kind d upto) = ap length e in absurd (omega arith)
@@ -132,17 +136,17 @@ file_bytes (Some xs) None told bytes e c = absurd c
 file_bytes (Some xs) (Some ys) told bytes e c = let same : xs ≡ told = cc in let whole : length told ≡ length (bytes ++ ys) = ap length (sym same ∙ c) in omega (arith, length-append bytes ys)
 
 -- a file that was refused for some told bytes isn't a file that is taken
-refused_or_accepted : (ws : List Word) (io : Inputs) (text told : List ℕ) (w : Web) → io.before ≡ Some told → IsAccepted told w → DeservesFile ws io text → ⊥
+refused_or_accepted : (ws : List Word) (io : Change) (text told : List ℕ) (w : Web) → io.before.bytes ≡ Some told → IsAccepted told w → DeservesFile ws io text → ⊥
 refused_or_accepted ws io text told w e a d = elim d.ended [
-  | inl long ↦ let more = file_bytes io.before io.after told d.bytes e d.taken in let short = a.text.0 in absurd (omega arith)
-  | inr whole ↦ accepted_or_fault d.bytes w d.fault (subst (λ bytes. IsAccepted bytes w) (all_of_told io.before io.after told d.bytes e d.taken whole.1) a) d.refused
+  | inl long ↦ let more = file_bytes io.before.bytes io.after.bytes told d.bytes e d.taken in let short = a.text.0 in absurd (omega arith)
+  | inr whole ↦ accepted_or_fault d.bytes w d.fault (subst (λ bytes. IsAccepted bytes w) (all_of_told io.before.bytes io.after.bytes told d.bytes e d.taken whole.1) a) d.refused
 ]
 
 wide_along : (c d : Command) (v w : Web) (line : TextLine) → d ≡ c → v ≡ w → IsWide d v line → IsTooWide c w
 wide_along c d v w line p q h = (line, subst (λ k. IsWide k w line) p (subst (λ u. IsWide d u line) q h))
 
 -- what the deserved statuses are
-by_accepted : (ws : List Word) (io : Inputs) (c : Command) (told : List ℕ) (w : Web) → Asks ws c → io.before ≡ Some told → IsAccepted told w → (Rose io.faults_before io.faults_after → ⊥)
+by_accepted : (ws : List Word) (io : Change) (c : Command) (told : List ℕ) (w : Web) → Asks ws c → io.before.bytes ≡ Some told → IsAccepted told w → (Rose io.before.faults io.after.faults → ⊥)
     → (s : Status) (text : List ℕ) → Deserves ws io s text → (s ≡ Done) ⊎ (((s ≡ Wide) × IsTooWide c w) ⊎ (s ≡ Memory))
 by_accepted ws io c told w q e a n Done text d = inl refl
 by_accepted ws io c told w q e a n Words text d = absurd (IsPlace-none IsCommand ws d.place (c, q) d.outside)
@@ -152,14 +156,14 @@ by_accepted ws io c told w q e a n Wide text d =
     inr (inl (refl, wide_along c d.command d.web w d.refusal (same_command ws d.command c d.asked q) web d.wide))
 by_accepted ws io c told w q e a n Differs text d = absurd d
 by_accepted ws io c told w q e a n Memory text d = inr (inr refl)
-by_accepted ws io c told w q e a n ReadFault text d = absurd (n d.rose)
+by_accepted ws io c told w q e a n ReadFault text d = absurd (n (rose-once _ _ d.rose))
 by_accepted ws io c told w q e a n WriteFault text d = absurd d
 
 -- an answer to an accepted file is none to a refused one
-refused_and_read : (io : Inputs) (told bytes : List ℕ) (w : Web) (f : FileFault) → io.before ≡ Some told → Gave io bytes → IsAccepted bytes w → FaultOf told f → ⊥
+refused_and_read : (io : Change) (told bytes : List ℕ) (w : Web) (f : FileFault) → io.before.bytes ≡ Some told → Gave io bytes → IsAccepted bytes w → FaultOf told f → ⊥
 refused_and_read io told bytes w f e g a x = accepted_or_fault told w f (subst (λ bs. IsAccepted bs w) (sym (told_bytes io told bytes e g)) a) x
 
-by_refused : (ws : List Word) (io : Inputs) (c : Command) (told : List ℕ) (f : FileFault) → Asks ws c → io.before ≡ Some told → FaultOf told f → (Rose io.faults_before io.faults_after → ⊥)
+by_refused : (ws : List Word) (io : Change) (c : Command) (told : List ℕ) (f : FileFault) → Asks ws c → io.before.bytes ≡ Some told → FaultOf told f → (Rose io.before.faults io.after.faults → ⊥)
     → (s : Status) (text : List ℕ) → Deserves ws io s text → (s ≡ File) ⊎ (s ≡ Memory)
 by_refused ws io c told f q e x n Done text d = absurd (refused_and_read io told d.bytes d.web f e d.read d.accepted x)
 by_refused ws io c told f q e x n Words text d = absurd (IsPlace-none IsCommand ws d.place (c, q) d.outside)
@@ -167,10 +171,10 @@ by_refused ws io c told f q e x n File text d = inl refl
 by_refused ws io c told f q e x n Wide text d = absurd (refused_and_read io told d.bytes d.web f e d.read d.accepted x)
 by_refused ws io c told f q e x n Differs text d = absurd d
 by_refused ws io c told f q e x n Memory text d = inr refl
-by_refused ws io c told f q e x n ReadFault text d = absurd (n d.rose)
+by_refused ws io c told f q e x n ReadFault text d = absurd (n (rose-once _ _ d.rose))
 by_refused ws io c told f q e x n WriteFault text d = absurd d
 
-by_words : (ws : List Word) (io : Inputs) (k : ℕ) → IsPlace IsCommand ws k → (s : Status) (text : List ℕ) → Deserves ws io s text → (s ≡ Words) ⊎ (s ≡ Memory)
+by_words : (ws : List Word) (io : Change) (k : ℕ) → IsPlace IsCommand ws k → (s : Status) (text : List ℕ) → Deserves ws io s text → (s ≡ Words) ⊎ (s ≡ Memory)
 by_words ws io k p Done text d = absurd (IsPlace-none IsCommand ws k (d.command, d.asked) p)
 by_words ws io k p Words text d = inl refl
 by_words ws io k p File text d = absurd (IsPlace-none IsCommand ws k (d.command, d.asked) p)
@@ -181,10 +185,10 @@ by_words ws io k p ReadFault text d = absurd (IsPlace-none IsCommand ws k d.aske
 by_words ws io k p WriteFault text d = absurd d
 
 -- the status that was told is the deserved one
-told_status : (out : Outputs) (text : List ℕ) (s r : Status) → Told out text s r → (Rose out.faults_before out.faults_after → ⊥) → r ≡ s
-told_status out text s r t n = elim t.ends [ inl p ↦ p.0 | inr p ↦ absurd (n p.2) ]
+told_status : (out : Change) (text : List ℕ) (s r : Status) → Told out text s r → (Rose out.before.faults out.after.faults → ⊥) → r ≡ s
+told_status out text s r t n = elim t.ends [ inl p ↦ p.0 | inr p ↦ absurd (n (rose-once _ _ p.1.rose)) ]
 
-pub completes : (ws : List Word) (io : Inputs) (out : Outputs) (r : Status) → Answers ws io out r → Completes ws io out r
+pub completes : (ws : List Word) (io : Change) (out : Change) (r : Status) → Answers ws io out r → Completes ws io out r
 completes ws io out r a = record {
   accepted = λ c told w q e acc n. let same = told_status out a.text a.status r a.told n.writes in rw same (by_accepted ws io c told w q e acc n.reads a.status a.text a.deserved);
   refused = λ c told f q e x n. let same = told_status out a.text a.status r a.told n.writes in rw same (by_refused ws io c told f q e x n.reads a.status a.text a.deserved);

@@ -81,7 +81,7 @@ unsound_answer w (Fault (Bare a b)) h = h
 
 -- what is left of the bytes' own checks
 pub accepted_or_refused : (bytes : List ℕ) (file : Web) (r : Result Web InputError) → is_json bytes ≡ false → IsText bytes file → MatchResult r (IsSound file) (IsUnsound file) → MatchResult r (IsAccepted bytes) (IsRefused bytes)
-accepted_or_refused bytes file (Ok w) j t h = record { file = file; not_json = j; text = t; tiled = h.tiled; heights = h.heights; turned = h.turned; graded = h.graded }
+accepted_or_refused bytes file (Ok w) j t h = record { file = file; not_json = j; text = t; sound = h }
 accepted_or_refused bytes file (Err Memory) j t h = tt
 accepted_or_refused bytes file (Err (Fault TooLong)) j t h = absurd h.1
 accepted_or_refused bytes file (Err (Fault (Line n))) j t h = absurd h.1

@@ -2,10 +2,10 @@
 --
 -- is_json bytes       == the first byte is `{`, a space, a tab, LF or CR
 -- turned_web file     == the web with the file's points and heights, and its triangles turned counter-clockwise
--- IsAccepted bytes w  == no JSON, and a text that spells a file within the limits; the points are distinct and not all on
---                        one line, the triangles are unimodular and tile the hull, there are as many heights as points,
---                        w is the file with its triangles turned, and every compact edge of w has a degree of at least 1
--- IsSound file w      == what the checks from the points on leave of a file and its web
+-- IsSound file w      == the points are distinct and not all on one line, the triangles are unimodular and tile the hull,
+--                        there are as many heights as points, w is the file with its triangles turned, and every compact
+--                        edge of w has a degree of at least 1
+-- IsAccepted bytes w  == no JSON, and a text that spells a file within the limits, which is sound with the web w
 -- HasOtherHeights w k == the triangles tile, and there are k heights, not one for each point
 -- HasLowEdge w a b d  == the triangles tile, there is a height for each point, and the first compact edge of the turned
 --                        web whose degree is at most 0 is that from a to b, of degree d
@@ -32,20 +32,17 @@ is_json (b ∷ bytes) = nat_eq b 123 || (nat_eq b 32 || (nat_eq b 9 || (nat_eq b
 abbrev pub turned_web : Web → Web
 turned_web file = record file { triangles = turned file.points file.triangles }
 
-pub record IsAccepted (bytes : List ℕ) (w : Web) : Type 0 where
-  pub file : Web
-  pub not_json : is_json bytes ≡ false
-  pub text : IsText bytes file
-  pub tiled : IsTiled file.points file.triangles
-  pub heights : length file.heights ≡ length file.points
-  pub turned : w ≡ turned_web file
-  pub graded : IsGraded w
-
 pub record IsSound (file w : Web) : Type 0 where
   pub tiled : IsTiled file.points file.triangles
   pub heights : length file.heights ≡ length file.points
   pub turned : w ≡ turned_web file
   pub graded : IsGraded w
+
+pub record IsAccepted (bytes : List ℕ) (w : Web) : Type 0 where
+  pub file : Web
+  pub not_json : is_json bytes ≡ false
+  pub text : IsText bytes file
+  pub sound : IsSound file w
 
 pub record HasOtherHeights (w : Web) (k : ℕ) : Type 0 where
   pub tiled : IsTiled w.points w.triangles

@@ -1,8 +1,8 @@
 -- The word lists of the commands.
 --
 -- IsBetween low high z == a number from low to high
--- IsDegree d     == a number from 0 to 24
--- IsOrder z      == a number from -64 to 64
+-- IsDegree d     == a number from 0 to MAX_DEGREE
+-- IsOrder z      == a number from MIN_ORDER to MAX_ORDER
 -- check_words    == the word `check`
 -- series_words k d n == the word `series`, the kind, a degree and an order
 -- IsSeries ws k d n  == the words of the series of a kind, in degrees through d, with exponents through n
@@ -10,11 +10,12 @@
 -- IsAsked c      == some words ask for the command
 -- IsCommand ws   == the words of some command
 -- IsWordsError ws e == e is the first place at which the words leave every word list
-use Rattle.std.specs.Prelude.{◌≡◌, ℕ, ℤ, pos, negsuc, ◌≤ℤ◌, List, [], ◌∷◌, codes}
+use Rattle.std.specs.Prelude.{◌≡◌, ℕ, ℤ, pos, ◌≤ℤ◌, List, [], ◌∷◌, codes}
 use Rattle.tv_spec_text.specs.Lines.{Word, spelled}
 use Rattle.tv_spec_text.specs.Places.{IsPlace}
 use Rattle.tv_text.specs.declared.series.Kind.{Kind}
 use Rattle.tv_text.specs.Sections.{kind_word}
+use Rattle.tv_top.specs.declared.command.TheConstants.{MAX_DEGREE, MIN_ORDER, MAX_ORDER}
 use Rattle.tv_top.specs.declared.command.Command.{Command}
 use Rattle.tv_top.specs.declared.command.Command.TheVariants.{Check, Series}
 use Rattle.tv_top.specs.declared.command.WordsError.{WordsError}
@@ -25,10 +26,10 @@ pub record IsBetween (low high z : ℤ) : Type 0 where
   pub greatest : z ≤ℤ high
 
 abbrev pub IsDegree : ℕ → Type 0
-IsDegree d = IsBetween (pos 0) (pos 24) (pos d)
+IsDegree d = IsBetween (pos 0) MAX_DEGREE (pos d)
 
 abbrev pub IsOrder : ℤ → Type 0
-IsOrder z = IsBetween (negsuc 63) (pos 64) z
+IsOrder z = IsBetween MIN_ORDER MAX_ORDER z
 
 abbrev pub check_words : List Word
 check_words = codes "check" ∷ []

@@ -16,19 +16,21 @@ use Rattle.tv_top.specs.Commands.{Asks, IsCommand}
 use Rattle.tv_top.specs.Acceptance.{IsAccepted}
 use Rattle.tv_top.specs.Reports.{IsWide}
 use Rattle.tv_top.specs.Rejections.{FaultOf}
-use Rattle.tv_top.specs.Answers.{Inputs, Outputs}
+use Rattle.tv_top.specs.Answers.{Change}
 use Rattle.tv_top.specs.declared.command.Command.{Command}
 use Rattle.tv_top.specs.declared.status.Status.{Status}
 use Rattle.tv_top.specs.declared.status.Status.TheVariants.{Done, Words, File, Wide, Memory}
 
-pub record NothingFails (io : Inputs) (out : Outputs) : Type 0 where
-  pub reads : Rose io.faults_before io.faults_after → ⊥
-  pub writes : Rose out.faults_before out.faults_after → ⊥
+pub record NothingFails (io : Change) (out : Change) : Type 0 where
+  pub reads : Rose io.before.faults io.after.faults → ⊥
+  pub writes : Rose out.before.faults out.after.faults → ⊥
 
 abbrev pub IsTooWide : Command → Web → Type 0
 IsTooWide c w = (line : Line) × IsWide c w line
 
-pub record Completes (ws : List Word) (io : Inputs) (out : Outputs) (result : Status) : Type 0 where
-  pub accepted : (c : Command) (bytes : List ℕ) (w : Web) → Asks ws c → io.before ≡ Some bytes → IsAccepted bytes w → NothingFails io out → (result ≡ Done) ⊎ (((result ≡ Wide) × IsTooWide c w) ⊎ (result ≡ Memory))
-  pub refused : (c : Command) (bytes : List ℕ) (f : FileFault) → Asks ws c → io.before ≡ Some bytes → FaultOf bytes f → NothingFails io out → (result ≡ File) ⊎ (result ≡ Memory)
-  pub words : (k : ℕ) → IsPlace IsCommand ws k → (Rose out.faults_before out.faults_after → ⊥) → (result ≡ Words) ⊎ (result ≡ Memory)
+pub record Completes (ws : List Word) (io : Change) (out : Change) (result : Status) : Type 0 where
+  pub accepted : (c : Command) (bytes : List ℕ) (w : Web) → Asks ws c → io.before.bytes ≡ Some bytes → IsAccepted bytes w
+      → NothingFails io out → (result ≡ Done) ⊎ (((result ≡ Wide) × IsTooWide c w) ⊎ (result ≡ Memory))
+  pub refused : (c : Command) (bytes : List ℕ) (f : FileFault) → Asks ws c → io.before.bytes ≡ Some bytes → FaultOf bytes f
+      → NothingFails io out → (result ≡ File) ⊎ (result ≡ Memory)
+  pub words : (k : ℕ) → IsPlace IsCommand ws k → (Rose out.before.faults out.after.faults → ⊥) → (result ≡ Words) ⊎ (result ≡ Memory)

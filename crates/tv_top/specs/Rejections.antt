@@ -12,6 +12,7 @@ use Rattle.tv_lattice.specs.declared.fault.InputError.{InputError}
 use Rattle.tv_lattice.specs.declared.fault.InputError.TheVariants.{Fault as Refusal, Memory}
 use Rattle.tv_text.specs.Faults.{IsText, IsTextFault}
 use Rattle.tv_top.specs.Acceptance.{is_json, IsUnsoundBy}
+use Rattle.tv_top.specs.declared.acceptance.TheConstants.{MAX_BYTES}
 
 pub record IsWebFault (bytes : List ℕ) (f : FileFault) : Type 0 where
   pub web : Web
@@ -20,8 +21,8 @@ pub record IsWebFault (bytes : List ℕ) (f : FileFault) : Type 0 where
   pub unsound : IsUnsoundBy web f
 
 abbrev pub FaultOf : List ℕ → FileFault → Type 0
-FaultOf bytes TooLong = 65536 < length bytes
-FaultOf bytes Json = (length bytes ≤ 65536) × (is_json bytes ≡ true)
+FaultOf bytes TooLong = MAX_BYTES < length bytes
+FaultOf bytes Json = (length bytes ≤ MAX_BYTES) × (is_json bytes ≡ true)
 FaultOf bytes (Line n) = (is_json bytes ≡ false) × IsTextFault bytes (Refusal (Line n))
 FaultOf bytes (TooMany e) = (is_json bytes ≡ false) × IsTextFault bytes (Refusal (TooMany e))
 FaultOf bytes f = IsWebFault bytes f

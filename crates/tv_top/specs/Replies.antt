@@ -24,7 +24,7 @@ use Rattle.tv_text.specs.Refusals.{fault_line}
 use Rattle.tv_top.specs.Acceptance.{IsAccepted}
 use Rattle.tv_top.specs.Reports.{IsReport, IsWide}
 use Rattle.tv_top.specs.Rejections.{FaultOf}
-use Rattle.tv_top.specs.Answers.{Inputs, Deserves, DeservesRead, read_text}
+use Rattle.tv_top.specs.Answers.{Change, Deserves, DeservesRead, read_text}
 use Rattle.tv_top.specs.declared.command.Command.{Command}
 use Rattle.tv_top.specs.declared.status.Status.{Status}
 use Rattle.tv_top.specs.declared.status.Status.TheVariants.{Done, File, Wide}
@@ -58,9 +58,9 @@ Judges c bytes s text = (w : Web) × IsAccepted bytes w × CarriesOut c w s text
 abbrev pub IsJudged : Command → List ℕ → Result Answer Failure → Type 0
 IsJudged c bytes r = MatchResult r (λ a. Judges c bytes a.status a.text.items) (λ e. e ≡ Memory)
 
-abbrev pub Fails : List Word → Inputs → Failure → Type 0
+abbrev pub Fails : List Word → Change → Failure → Type 0
 Fails ws io Memory = ⊤
 Fails ws io Read = DeservesRead ws io read_text
 
-abbrev pub Replies : List Word → Inputs → Result Answer Failure → Type 0
+abbrev pub Replies : List Word → Change → Result Answer Failure → Type 0
 Replies ws io r = MatchResult r (λ a. Deserves ws io a.status a.text.items) (Fails ws io)

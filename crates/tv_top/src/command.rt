@@ -9,6 +9,15 @@ use thiserror::Error;
 use tv_text::number::number;
 use tv_text::series::Kind;
 
+/// The greatest degree that words may ask for. The least is 0.
+pub const MAX_DEGREE: i64 = 24;
+
+/// The least order that words may ask for.
+pub const MIN_ORDER: i64 = -64;
+
+/// The greatest order that words may ask for.
+pub const MAX_ORDER: i64 = 64;
+
 /// What the words ask for.
 #[derive(Clone, Copy, Debug, PartialEq, Eq)]
 pub enum Command {
@@ -26,7 +35,8 @@ pub enum WordsError {
     At(u64),
 }
 
-/// The command that the words ask for.
+/// The command that the words ask for. It errs where they are no command's, with the first place at which they leave every
+/// word list.
 pub fn parse_words(words: &[String]) -> Result<Command, WordsError>
     ensures { MatchResult result (Asks (map string_bytes words.now)) (IsWordsError (map string_bytes words.now)) }
 {
@@ -59,7 +69,7 @@ fn series(rest: &[String]) -> Result<Command, WordsError>
     let Some((degree, orders)) = after_degree(degrees) else {
         return Err(WordsError::At(2));
     };
-    let Some((upto, rest)) = after_number(orders, -64, 64) else {
+    let Some((upto, rest)) = after_number(orders, MIN_ORDER, MAX_ORDER) else {
         return Err(WordsError::At(3));
     };
     if !rest.is_empty() {
@@ -70,7 +80,9 @@ fn series(rest: &[String]) -> Result<Command, WordsError>
 
 // The kind of series that the first word names, and what follows it.
 fn after_kind<'a>(words: &'a [String]) -> Option<(Kind, &'a [String])>
-    ensures { MatchOption result ((kind : Kind) (ws : List (List ℕ)) → map string_bytes words.now ≢ kind_word kind ∷ ws) (λ r. map string_bytes words.now ≡ kind_word r.0 ∷ map string_bytes r.1.now) }
+    ensures { MatchOption result
+        ((kind : Kind) (ws : List (List ℕ)) → map string_bytes words.now ≢ kind_word kind ∷ ws)
+        (λ r. map string_bytes words.now ≡ kind_word r.0 ∷ map string_bytes r.1.now) }
 {
     match after_word(words, "full") {
         Some(rest) => Some((Kind::Full, rest)),
@@ -83,7 +95,9 @@ fn after_kind<'a>(words: &'a [String]) -> Option<(Kind, &'a [String])>
 
 // What follows the first word, where that is the text.
 fn after_word<'a>(words: &'a [String], text: &str) -> Option<&'a [String]>
-    ensures { MatchOption result ((ws : List (List ℕ)) → map string_bytes words.now ≢ text.now ∷ ws) (λ rest. map string_bytes words.now ≡ text.now ∷ map string_bytes rest.now) }
+    ensures { MatchOption result
+        ((ws : List (List ℕ)) → map string_bytes words.now ≢ text.now ∷ ws)
+        (λ rest. map string_bytes words.now ≡ text.now ∷ map string_bytes rest.now) }
 {
     let (word, rest) = words.split_first()?;
     if is_word(word, text) {
@@ -101,9 +115,11 @@ fn is_word(word: &String, text: &str) -> bool
 
 // The degree that the first word spells, and what follows it.
 fn after_degree<'a>(words: &'a [String]) -> Option<(u32, &'a [String])>
-    ensures { MatchOption result ((d : ℕ) (ws : List (List ℕ)) → IsDegree d → map string_bytes words.now ≢ spelled (pos d) ∷ ws) (λ r. IsDegree r.0 × (map string_bytes words.now ≡ spelled (pos r.0) ∷ map string_bytes r.1.now)) }
+    ensures { MatchOption result
+        ((d : ℕ) (ws : List (List ℕ)) → IsDegree d → map string_bytes words.now ≢ spelled (pos d) ∷ ws)
+        (λ r. IsDegree r.0 × (map string_bytes words.now ≡ spelled (pos r.0) ∷ map string_bytes r.1.now)) }
 {
-    match after_number(words, 0, 24) {
+    match after_number(words, 0, MAX_DEGREE) {
         Some((degree, rest)) => Some((degree as u32, rest)),
         None => None,
     }
@@ -113,7 +129,9 @@ fn after_degree<'a>(words: &'a [String]) -> Option<(u32, &'a [String])>
 fn after_number<'a>(words: &'a [String], low: i64, high: i64) -> Option<(i64, &'a [String])>
     requires low { IsNumber low }
     requires high { IsNumber high }
-    ensures { MatchOption result ((z : ℤ) (ws : List (List ℕ)) → IsBetween low high z → map string_bytes words.now ≢ spelled z ∷ ws) (λ r. IsBetween low high r.0 × (map string_bytes words.now ≡ spelled r.0 ∷ map string_bytes r.1.now)) }
+    ensures { MatchOption result
+        ((z : ℤ) (ws : List (List ℕ)) → IsBetween low high z → map string_bytes words.now ≢ spelled z ∷ ws)
+        (λ r. IsBetween low high r.0 × (map string_bytes words.now ≡ spelled r.0 ∷ map string_bytes r.1.now)) }
 {
     let (word, rest) = words.split_first()?;
     match number_between(word.as_bytes(), low, high) {
@@ -125,7 +143,9 @@ fn after_number<'a>(words: &'a [String], low: i64, high: i64) -> Option<(i64, &'
 fn number_between(word: &[u8], low: i64, high: i64) -> Option<i64>
     requires low { IsNumber low }
     requires high { IsNumber high }
-    ensures { MatchOption result ((z : ℤ) → IsBetween low high z → word.now ≢ spelled z) (λ z. IsBetween low high z × (word.now ≡ spelled z)) }
+    ensures { MatchOption result
+        ((z : ℤ) → IsBetween low high z → word.now ≢ spelled z)
+        (λ z. IsBetween low high z × (word.now ≡ spelled z)) }
 {
     let Some(z) = number(word) else {
         return None;

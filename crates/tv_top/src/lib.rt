@@ -16,6 +16,6 @@ mod telling;
 mod tests;
 
 pub use acceptance::{MAX_BYTES, accept};
-pub use command::{Command, WordsError, parse_words};
+pub use command::{Command, MAX_DEGREE, MAX_ORDER, MIN_ORDER, WordsError, parse_words};
 pub use running::run;
 pub use status::Status;

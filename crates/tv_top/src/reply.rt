@@ -23,8 +23,10 @@ pub(crate) fn reply<S: Source>(
     words: &[String],
     source: &mut S,
 ) -> Result<Answer, Failure>
-    ensures deserved { Replies (map string_bytes words.now) (record { before = S.left source.old; after = S.left source.new; faults_before = S.faults source.old; faults_after = S.faults source.new }) result }
-    ensures reads { Reads (map string_bytes words.now) (record { before = S.left source.old; after = S.left source.new; faults_before = S.faults source.old; faults_after = S.faults source.new }) }
+    ensures deserved { Replies (map string_bytes words.now)
+        (record { before = S.seen source.old; after = S.seen source.new }) result }
+    ensures reads { Reads (map string_bytes words.now)
+        (record { before = S.seen source.old; after = S.seen source.new }) }
 {
     match parse_words(words) {
         Ok(command) => over_source(alloc, command, source),
@@ -38,8 +40,10 @@ fn over_source<S: Source>(
     source: &mut S,
 ) -> Result<Answer, Failure>
     requires { IsAsked command }
-    ensures deserved { (ws : List (List ℕ)) → Asks ws command → Replies ws (record { before = S.left source.old; after = S.left source.new; faults_before = S.faults source.old; faults_after = S.faults source.new }) result }
-    ensures reads { (ws : List (List ℕ)) → Asks ws command → Reads ws (record { before = S.left source.old; after = S.left source.new; faults_before = S.faults source.old; faults_after = S.faults source.new }) }
+    ensures deserved { (ws : List (List ℕ)) → Asks ws command →
+        Replies ws (record { before = S.seen source.old; after = S.seen source.new }) result }
+    ensures reads { (ws : List (List ℕ)) → Asks ws command →
+        Reads ws (record { before = S.seen source.old; after = S.seen source.new }) }
 {
     match read_all(alloc, source, MAX_BYTES) {
         Ok(bytes) => judge(alloc, &bytes, command),

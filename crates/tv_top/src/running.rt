@@ -25,8 +25,12 @@ pub fn run<S: Source, K: Sink>(
     source: &mut S,
     sink: &mut K,
 ) -> Status
-    ensures answers { Answers (map string_bytes words.now) (record { before = S.left source.old; after = S.left source.new; faults_before = S.faults source.old; faults_after = S.faults source.new }) (record { before = K.taken sink.old; after = K.taken sink.new; faults_before = K.faults sink.old; faults_after = K.faults sink.new }) result }
-    ensures complete { Completes (map string_bytes words.now) (record { before = S.left source.old; after = S.left source.new; faults_before = S.faults source.old; faults_after = S.faults source.new }) (record { before = K.taken sink.old; after = K.taken sink.new; faults_before = K.faults sink.old; faults_after = K.faults sink.new }) result }
+    ensures answers { Answers (map string_bytes words.now)
+        (record { before = S.seen source.old; after = S.seen source.new })
+        (record { before = K.seen sink.old; after = K.seen sink.new }) result }
+    ensures complete { Completes (map string_bytes words.now)
+        (record { before = S.seen source.old; after = S.seen source.new })
+        (record { before = K.seen sink.old; after = K.seen sink.new }) result }
 {
     carry_out(alloc, words, source, sink)
 }
@@ -38,7 +42,9 @@ fn carry_out<S: Source, K: Sink>(
     source: &mut S,
     sink: &mut K,
 ) -> Status
-    ensures { Answers (map string_bytes words.now) (record { before = S.left source.old; after = S.left source.new; faults_before = S.faults source.old; faults_after = S.faults source.new }) (record { before = K.taken sink.old; after = K.taken sink.new; faults_before = K.faults sink.old; faults_after = K.faults sink.new }) result }
+    ensures { Answers (map string_bytes words.now)
+        (record { before = S.seen source.old; after = S.seen source.new })
+        (record { before = K.seen sink.old; after = K.seen sink.new }) result }
 {
     match reply(alloc, words, source) {
         Ok(answer) => tell(sink, &answer.text, answer.status),

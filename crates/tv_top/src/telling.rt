@@ -7,7 +7,8 @@ use tv_outside::{Sink, write_all};
 
 /// Writes the whole text; the status is that of the text, or that of a failed write.
 pub(crate) fn tell<K: Sink>(sink: &mut K, text: &[u8], status: Status) -> Status
-    ensures { Told (record { before = K.taken sink.old; after = K.taken sink.new; faults_before = K.faults sink.old; faults_after = K.faults sink.new }) text.now status result }
+    ensures { Told (record { before = K.seen sink.old; after = K.seen sink.new })
+        text.now status result }
 {
     match write_all(sink, text) {
         Ok(()) => status,
