@@ -5,7 +5,7 @@ mod Degrees
 mod Inserted
 mod Keeping
 mod Asking
-mod Summed
+pub mod Summed
 mod Written
 mod OpenLegs
 mod Fronts
