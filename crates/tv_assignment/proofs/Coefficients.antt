@@ -15,7 +15,7 @@ use Rattle.tv_spec_plane.specs.Web.{Web, parity}
 use Rattle.tv_spec_boxes.specs.Assignments.{Rows, Assignment, all_legs, edge_twist}
 use Rattle.tv_spec_boxes.specs.Configurations.{boxes_left}
 use Rattle.tv_spec_series.specs.Families.{coefficient}
-use Rattle.tv_spec_series.proofs.Coefficients.{coefficient_below, coefficient_at}
+use Rattle.tv_laws_series.proofs.Coefficients.{coefficient_below, coefficient_at}
 use Rattle.tv_laws_counts.specs.Ways.{ways_at, start_of, assignment_coefficient}
 use Rattle.tv_laws_counts.proofs.Bounds.{none_below_start}
 use Rattle.tv_assignment.specs.Terms.{signed_times, first_exponent, assignment_terms}

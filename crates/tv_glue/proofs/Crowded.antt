@@ -16,7 +16,7 @@ use Rattle.tv_partition.specs.Rows.{IsDiagram}
 use Rattle.tv_spec_boxes.specs.Assignments.{Assignment, assignments, class_of, no_legs}
 use Rattle.tv_spec_boxes.specs.Numbers.{lowest, box_bound}
 use Rattle.tv_spec_series.specs.Families.{Family, coefficient, series_coefficient, coefficient_of}
-use Rattle.tv_spec_series.proofs.Coefficients.{coefficient-from}
+use Rattle.tv_laws_series.proofs.Coefficients.{coefficient-from}
 use Rattle.tv_graded.specs.Calls.{IsAddedWide}
 use Rattle.tv_spec_plane.specs.Graded.{IsGraded}
 use Rattle.tv_laws_counts.proofs.Bounds.{boxes_within}

@@ -6,7 +6,7 @@ use Rattle.tv_laurent.specs.SeriesCalls.{Tells}
 use Rattle.tv_laurent.specs.declared.coefficient.Coefficient.{Coefficient}
 use Rattle.tv_laurent.specs.declared.coefficient.Coefficient.TheVariants.{Beyond, Zero, Is}
 use Rattle.tv_spec_series.specs.Families.{coefficient}
-use Rattle.tv_spec_series.proofs.Coefficients.{coefficient_below, coefficient_at, coefficient_beyond}
+use Rattle.tv_laws_series.proofs.Coefficients.{coefficient_below, coefficient_at, coefficient_beyond}
 
 -- the coefficient that is told, and nought where none is
 abbrev pub told : {A : Type 0} → Operations A → Coefficient A → A

@@ -3,6 +3,7 @@
 #![tactic(auto)]
 
 mod coefficient;
+mod copies;
 mod exponents;
 mod fault;
 mod normal;

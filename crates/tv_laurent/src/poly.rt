@@ -10,6 +10,7 @@ ghost use Rattle.tv_laws_series.proofs.PolyRing.{poly_laws};
 ghost use Rattle.tv_laws_series.proofs.PolySizeLaws.{poly_size_laws};
 ghost use Rattle.tv_laurent.specs.PolyCalls.{poly_term, outward};
 
+use crate::copies::copies;
 use crate::exponents::places;
 use crate::fault::without_exponent;
 use crate::normal::{ending, leading};
@@ -77,18 +78,6 @@ fn negatives_of<C: Ring>(alloc: Global, row: &[C]) -> Result<Vec<C>, RingFault>
         negatives.push(coefficient.neg()?)?;
     }
     Ok(negatives)
-}
-
-// A copy of each coefficient.
-fn copies<C: Ring>(alloc: Global, row: &[C]) -> Result<Vec<C>, RingFault>
-    ensures value { IfOk result (λ v. v.items ≡ row.now) }
-    ensures never_wide { IsOkUnless result RingFault.Memory }
-{
-    let mut copies = Vec::with_capacity(alloc, row.len())?;
-    for coefficient in row {
-        copies.push(coefficient.copy()?)?;
-    }
-    Ok(copies)
 }
 
 // Whether both rows are alike.

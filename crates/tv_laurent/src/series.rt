@@ -10,11 +10,13 @@ ghost use Rattle.tv_laurent.specs.QuotientCalls.{QuotientReaches, IsQuotientWide
 ghost use Rattle.tv_laurent.specs.SeriesCalls.{Tells, ReachesAddUp, ReachesAddTo, OnWide, IsSumWide, IsProductWide, IsMultipleWide};
 
 use crate::coefficient::Coefficient;
+use crate::copies::copies;
 use crate::exponents::places;
 use crate::fault::SeriesFault;
 use crate::products::{multiples, products};
 use crate::quotients::quotients;
 use crate::sums::sums;
+use std::alloc::AllocError;
 use std::marker::Model;
 use tv_ring::Ring;
 
@@ -160,6 +162,17 @@ impl<C: Ring> Series<C> {
         })
     }
 
+    /// The same series once more.
+    pub fn copy(&self) -> Result<Series<C>, AllocError>
+        ensures value { IfOk result (λ s. s ≡ self.now) }
+    {
+        let coefficients = copies(*self.coefficients.allocator(), &self.coefficients)?;
+        Ok(Series {
+            low: self.low,
+            coefficients,
+        })
+    }
+
     /// Moves each exponent by `k`. It takes no memory.
     pub fn shift(self, k: i64) -> Series<C>
         requires bounded { IsBounded (series_shift k self) }
@@ -176,10 +189,19 @@ impl<C: Ring> Series<C> {
         requires within { IsWithin upto }
         ensures value { result ≡ series_cut upto self }
     {
+        let mut series = self;
+        series.truncate(upto);
+        series
+    }
+
+    /// Forgets the coefficients beyond `upto`, in place.
+    pub fn truncate(&mut self, upto: i64)
+        requires within { IsWithin upto }
+        ensures value { self.new ≡ series_cut upto self.old }
+    {
         let low = self.low.min(upto + 1);
-        let mut coefficients = self.coefficients;
-        coefficients.truncate((upto + 1 - low) as usize);
-        Series { low, coefficients }
+        self.coefficients.truncate((upto + 1 - low) as usize);
+        self.low = low;
     }
 
     /// Answers nothing, and tells a proof that exponents are bounded and coefficients are values.

@@ -96,6 +96,9 @@ fn series(rt: HostRuntime) -> Result<(), Fail> {
     assert_eq!(rt; moved.upto(), 4);
     assert!(rt; shows(&c.add(&b)?, 0, &[1, 1, 2, 1]));
     assert!(rt; shows(&moved_to(moved, -2)?.cut(-1), -2, &[1, 1]));
+    let mut short = c.copy()?;
+    short.truncate(3);
+    assert!(rt; shows(&short, 2, &[1, 0]));
     assert!(rt; shows(&c.cut(-2), -1, &[]));
     Ok(())
 }

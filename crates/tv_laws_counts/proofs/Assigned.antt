@@ -1,8 +1,5 @@
 -- The list of assignments has exactly those that the relation says, each once.
---
--- HasFirst n a  == the first diagram has n cells
--- BeginsBy rows a == the first diagram is that
-use Rattle.std.specs.Prelude.{◌≡◌, Contains, ℕ, zero, suc, ◌+◌, ◌-◌, ◌*◌, ◌≤◌, ◌<◌, Bool, true, false, ◌&&◌, nat_eq, nat_le, ℤ, pos, ◌+ℤ◌, ◌*ℤ◌, List, [], ◌∷◌, map, filter, length}
+use Rattle.std.specs.Prelude.{◌≡◌, Contains, ℕ, suc, ◌+◌, ◌-◌, ◌*◌, ◌≤◌, ◌<◌, Bool, true, nat_eq, nat_le, pos, ◌*ℤ◌, List, [], ◌∷◌, map, filter}
 use Rattle.std.specs.List.{flat_map, AllByRecursion, IsDistinct}
 use Rattle.std.specs.Cmp.Lexicographic.{pointwise}
 use Rattle.std.proofs.Common.{refl, sym, ap, ◌∙◌, arith}
@@ -11,12 +8,12 @@ use Rattle.std.proofs.lemmas.Bool.Decides.{nat_tests}
 use Rattle.std.proofs.lemmas.List.{length-map}
 use Rattle.std.proofs.lemmas.Map.Views.{Contains-from_any}
 use Rattle.tv_lemmas.specs.Naturals.{as_natural}
-use Rattle.tv_lemmas.proofs.Members.{all-any, all-map, all-flat_map, all-contains, contains-head, contains-filter, contains-map, contains-flat_map, contains-range}
-use Rattle.tv_lemmas.proofs.Distinct.{distinct-map, distinct-filter, distinct-flat_map, distinct-range}
+use Rattle.tv_lemmas.proofs.Members.{all-onto, all-contains, contains-head, contains-filter, contains-map, contains-flat_map, contains-range}
+use Rattle.tv_lemmas.proofs.Distinct.{distinct-filter, distinct-range, distinct-ahead}
 use Rattle.tv_spec_plane.specs.declared.records.CompactEdge.{CompactEdge}
 use Rattle.tv_spec_plane.specs.Web.{Web, compact, below, edge_degree}
 use Rattle.tv_spec_plane.specs.Graded.{HasDegree, IsGraded}
-use Rattle.tv_partition.specs.Rows.{IsDiagram, size, diagrams}
+use Rattle.tv_partition.specs.Rows.{size, diagrams}
 use Rattle.tv_partition.proofs.Members.{diagrams-are-all, same_lists}
 use Rattle.tv_partition.proofs.Descending.{diagrams-once}
 use Rattle.tv_spec_boxes.specs.Assignments.{Rows, Assignment, sum_on, choices, assignments}
@@ -53,54 +50,13 @@ same_rows = pointwise nat_eq
 abbrev same_all : Assignment → Assignment → Bool
 same_all = pointwise same_rows
 
-abbrev HasFirst : ℕ → Assignment → Type 0
-HasFirst n [] = ⊥
-HasFirst n (rows ∷ a) = size rows ≡ n
-
-sizes-apart : (m n : ℕ) → nat_eq m n ≡ false → (a b : Assignment) → HasFirst m a → HasFirst n b → same_all a b ≡ false
-sizes-apart m n differ [] b p q = absurd p
-sizes-apart m n differ (rows ∷ a) [] p q = absurd q
-sizes-apart m n differ (rows ∷ a) (others ∷ b) p q = by_test (same_rows rows others) refl
-  where
-    by_test : (t : Bool) → same_rows rows others ≡ t → (t && same_all a b) ≡ false
-    by_test true e = absurd (let equal : m ≡ n = sym p ∙ (ap size (same_lists rows others e) ∙ q) in let none : ⊥ = grind (arith, nat_tests) in none)
-    by_test false e = refl
-
-abbrev BeginsBy : Rows → Assignment → Type 0
-BeginsBy rows [] = ⊥
-BeginsBy rows (first ∷ a) = first ≡ rows
-
-rows-apart : (r s : Rows) → same_rows r s ≡ false → (a b : Assignment) → BeginsBy r a → BeginsBy s b → same_all a b ≡ false
-rows-apart r s differ [] b p q = absurd p
-rows-apart r s differ (rows ∷ a) [] p q = absurd q
-rows-apart r s differ (rows ∷ a) (others ∷ b) p q = rw (p, q, differ) refl
-
-behind-apart : (rows : Rows) (a b : Assignment) → same_all a b ≡ false → same_all (rows ∷ a) (rows ∷ b) ≡ false
-behind-apart rows a b differ = rw (own rows, differ) refl
-
-begins : (rows : Rows) (lists : List Assignment) → AllByRecursion (BeginsBy rows) (map (λ a. rows ∷ a) lists)
-begins rows [] = tt
-begins rows (a ∷ lists) = (refl, begins rows lists)
-
-firsts : (n : ℕ) (lists : List Assignment) → AllByRecursion (HasFirst n) (flat_map (λ rows. map (λ a. rows ∷ a) lists) (diagrams n))
-firsts n lists =
-    all-flat_map (HasSize n) (HasFirst n) (λ (rows : Rows). map (λ a. rows ∷ a) lists)
-    (λ rows is. all-map (λ (a : Assignment). Unit {0}) (HasFirst n) (λ (a : Assignment). rows ∷ a) (λ a none. is.1) lists (all-any (λ (a : Assignment). Unit {0}) (λ a. tt) lists)) (diagrams n) (diagrams_are n)
-
-starting-once : (n : ℕ) (lists : List Assignment) → IsDistinct same_all lists → IsDistinct same_all (flat_map (λ rows. map (λ a. rows ∷ a) lists) (diagrams n))
-starting-once n lists once =
-    distinct-flat_map same_rows same_all BeginsBy (λ rows. map (λ a. rows ∷ a) lists) rows-apart (diagrams n) (diagrams-once n)
-    (all-any (λ rows. AllByRecursion (BeginsBy rows) (map (λ a. rows ∷ a) lists)) (λ rows. begins rows lists) (diagrams n))
-    (all-any (λ rows. IsDistinct same_all (map (λ a. rows ∷ a) lists)) (λ rows. distinct-map same_all same_all (λ a. rows ∷ a) (behind-apart rows) lists once) (diagrams n))
-
 pub choices-once : (gs : List ℕ) (d : ℕ) → IsDistinct same_all (choices gs d)
 unfolding choices IsDistinct
 choices-once [] d = (tt, tt)
 choices-once (g ∷ gs) d =
-    distinct-flat_map nat_eq same_all HasFirst (λ n. flat_map (λ rows. map (λ a. rows ∷ a) (choices gs (d - (n * g)))) (diagrams n)) sizes-apart
+    distinct-ahead same_rows same_lists own size diagrams (λ n. choices gs (d - (n * g)))
+    (λ n. all-onto (HasSize n) (λ rows. size rows ≡ n) (λ rows is. is.1) (diagrams n) (diagrams_are n)) diagrams-once (λ n. choices-once gs (d - (n * g)))
     (filter (λ n. nat_le (n * g) d) (below (suc d))) (distinct-filter nat_eq (λ n. nat_le (n * g) d) (below (suc d)) (distinct-range 0 (suc d)))
-    (all-any (λ n. AllByRecursion (HasFirst n) (flat_map (λ rows. map (λ a. rows ∷ a) (choices gs (d - (n * g)))) (diagrams n))) (λ n. firsts n (choices gs (d - (n * g)))) (filter (λ n. nat_le (n * g) d) (below (suc d))))
-    (all-any (λ n. IsDistinct same_all (flat_map (λ rows. map (λ a. rows ∷ a) (choices gs (d - (n * g)))) (diagrams n))) (λ n. starting-once n (choices gs (d - (n * g))) (choices-once gs (d - (n * g)))) (filter (λ n. nat_le (n * g) d) (below (suc d))))
 
 pub assignments_once : AssignmentsOnce
 unfolding assignments

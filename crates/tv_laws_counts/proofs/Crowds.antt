@@ -1,6 +1,6 @@
 -- The crowd of a class bounds its configurations, the ways to split boxes over the first corners of an assignment, and
 -- the counts of its corners.
-use Rattle.std.specs.Prelude.{◌≡◌, Contains, ℕ, suc, ◌+◌, ◌≤◌, true, ◌&&◌, int_le, ℤ, pos, negsuc, ◌≤ℤ◌, List, [], ◌∷◌, length}
+use Rattle.std.specs.Prelude.{◌≡◌, Contains, ℕ, suc, ◌≤◌, true, ◌&&◌, int_le, ℤ, pos, negsuc, ◌≤ℤ◌, List, length}
 use Rattle.std.specs.List.{AllByRecursion}
 use Rattle.std.proofs.Common.{refl, arith, le_trans}
 use Rattle.std.proofs.lemmas.Int.{ints}

@@ -5,6 +5,8 @@ pub mod InRings
 pub mod Fillings
 pub mod Choices
 pub mod Assigned
+pub mod SetsOnce
+pub mod Configured
 pub mod SignedCounts
 pub mod Degrees
 pub mod Bounds

@@ -19,7 +19,7 @@ rises-filter q (c ∷ cells) r =
     let rest = rises-filter q cells (rises-tail c cells r) in
     elim (q c) as (λ v. rises (cond v (c ∷ filter q cells) (filter q cells)) ≡ true) [ true ↦ rises-cons c (filter q cells) (before-filter q c cells (before_rising c cells r)) rest | false ↦ rest ]
 
-same_cell : (c d : Cell) → same c d ≡ true → c ≡ d
+pub same_cell : (c d : Cell) → same c d ≡ true → c ≡ d
 same_cell c d e = let p = same_is c d e in cell_is c d p.0 p.1 p.2
 
 any-filter_head : (q : Cell → Bool) (c d : Cell) (now rest : Bool) (s v : Bool) → same c d ≡ s → q d ≡ v → now ≡ (rest && q c) → cond v (s || now) now ≡ ((s || rest) && q c)
@@ -41,7 +41,7 @@ any-filter q c (d ∷ cells) = onto (q d) ∙ any-filter_head q c d (list_any (s
     onto false = refl
 
 -- a member of a rising list is its first or comes behind it
-behind : (c d : Cell) (cells : List Cell) → Before d cells → list_any (same c) cells ≡ true → precedes d c ≡ true
+pub behind : (c d : Cell) (cells : List Cell) → Before d cells → list_any (same c) cells ≡ true → precedes d c ≡ true
 behind c d [] b m = cc
 behind c d (e ∷ cells) b m = step (same c e) refl (behind c d cells b.1) m
   where
@@ -49,7 +49,7 @@ behind c d (e ∷ cells) b m = step (same c e) refl (behind c d cells b.1) m
     step true h rest m = let u : c ≡ e = same_cell c e h in ap (precedes d) u ∙ b.0
     step false h rest m = rest m
 
-not_both : (c d : Cell) → precedes c d ≡ true → precedes d c ≡ true → ⊥
+pub not_both : (c d : Cell) → precedes c d ≡ true → precedes d c ≡ true → ⊥
 not_both c d p q = grind (arith, nat_tests)
 
 heads : (x y : Cell) (xs ys : List Cell) → Before x xs → Before y ys → (same x y || list_any (same x) ys) ≡ true → (same y x || list_any (same y) xs) ≡ true → x ≡ y

@@ -1,7 +1,7 @@
 //! Laws of the number of configurations: each function does nothing, and its contract is a law.
 
 ghost use Rattle.tv_laws_counts.specs.Laws.{FillingsCounted, ConfigurationsCounted, SignedCountIs, AssignmentsByDegree, AssignmentsListed, CrowdOfClass, CrowdOfFront, CrowdOfCorner, BoxesWithin, StartsAbove, NoneBelowStart, WaysSwap, WaysLast};
-ghost use Rattle.tv_laws_counts.specs.Members.{AssignmentsAreAll, AssignmentsOnce};
+ghost use Rattle.tv_laws_counts.specs.Members.{AssignmentsAreAll, AssignmentsOnce, ConfigurationsAreAll, ConfigurationsOnce};
 ghost use Rattle.tv_laws_counts.specs.Cubes.{ExtrasReach, LargerCube, LargerCount, NoExtras};
 
 /// The fillings of corners by n boxes are as many as the convolution of the counts of the corners says.
@@ -37,6 +37,17 @@ pub fn assignments_are_all()
 /// No two places of that list have the same assignment.
 pub fn assignments_once()
     ensures { AssignmentsOnce }
+{}
+
+/// In a graded web with diagrams on its open edges the configurations of a class and an Euler characteristic are exactly
+/// those in the list.
+pub fn configurations_are_all()
+    ensures { ConfigurationsAreAll }
+{}
+
+/// No two places of that list have the same configuration.
+pub fn configurations_once()
+    ensures { ConfigurationsOnce }
 {}
 
 /// The configurations of a class and of an Euler characteristic up to n are at most the crowd.

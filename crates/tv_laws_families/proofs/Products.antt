@@ -18,8 +18,8 @@ use Rattle.tv_laws_series.specs.Quotients.{owed}
 use Rattle.tv_laws_series.proofs.Exponents.{above_is, above_adds}
 use Rattle.tv_laws_series.proofs.Padded.{padded_before, padded_after, padded-convolution}
 use Rattle.tv_laws_series.proofs.Quotients.{owed_is, owed-same}
-use Rattle.tv_spec_series.specs.Reduced.{from, product_at, BeginsAt, IsQuotient}
-use Rattle.tv_spec_series.proofs.Order.{int_lt-true, int_lt-false}
+use Rattle.tv_spec_series.specs.Reduced.{product_at, BeginsAt, IsQuotient}
+use Rattle.tv_spec_series.proofs.Products.{from, product-below, product-at}
 use Rattle.tv_laws_families.specs.Laws.{OnlyQuotientThrough, IsQuotientFromZero, QuotientFromZero}
 
 abbrev pub multiples : {A : Type 0} → Operations A → (ℕ → ℤ) → ℕ → A
@@ -38,21 +38,6 @@ module _ {A : Type 0} {IsValue : A → Type 0} {r : Operations A} (laws : RingLa
       convolution_is r (multiples r c) (multiples r f) k
       ∙ (sum_below-same r (term r (multiples r c) (multiples r f) k) (multiples r (term wholes c f k)) (suc k) (λ i h. term-multiples c f k i)
       ∙ (sum_below-multiples (term wholes c f k) (suc k) ∙ ap (whole_times r) (sym (convolution_is wholes c f k))))
-
-product_at_is : (low first : ℤ) (f g : ℤ → ℤ) (n : ℤ) → product_at low first f g n ≡ (if int_lt n (low +ℤ first) then pos 0 else convolution wholes (from f low) (from g first) (above (low +ℤ first) n))
-unfolding product_at
-product_at_is low first f g n = refl
-
-pub product-below : (low first : ℤ) (f g : ℤ → ℤ) (n : ℤ) → n <ℤ (low +ℤ first) → product_at low first f g n ≡ pos 0
-product-below low first f g n h = let b = int_lt-true n (low +ℤ first) h in rw (product_at_is low first f g n, b) refl
-
-above_start : (low : ℤ) (k : ℕ) → above low (low +ℤ pos k) ≡ k
-above_start low k = omega (arith, ints, above_is low (low +ℤ pos k))
-
-pub product-at : (low first : ℤ) (f g : ℤ → ℤ) (k : ℕ) → product_at low first f g ((low +ℤ first) +ℤ pos k) ≡ convolution wholes (from f low) (from g first) k
-product-at low first f g k =
-    let b = int_lt-false ((low +ℤ first) +ℤ pos k) (low +ℤ first) (omega (arith, ints)) in
-    rw (product_at_is low first f g ((low +ℤ first) +ℤ pos k), b, above_start (low +ℤ first) k) refl
 
 -- counted from a lower exponent, a series is 0 at first
 from-lower : (low m : ℤ) (f : ℤ → ℤ) (i : ℕ) → m ≤ℤ low → ((n : ℤ) → n <ℤ low → f n ≡ pos 0) → from f m i ≡ padded wholes (above m low) (from f low) i

@@ -19,10 +19,11 @@ use Rattle.tv_laws_series.proofs.Exponents.{above_is, above_same, above_adds}
 use Rattle.tv_laws_series.proofs.Quotients.{quotient, quotient-convolution, only_quotient, length-quotients}
 use Rattle.tv_laws_series.proofs.SeriesQuotients.{value_series_quotient, quotient-product}
 use Rattle.tv_spec_series.specs.Families.{coefficient}
-use Rattle.tv_spec_series.specs.Reduced.{from, product_at, IsQuotient}
+use Rattle.tv_spec_series.specs.Reduced.{product_at, IsQuotient}
+use Rattle.tv_spec_series.proofs.Products.{from, product-below, product-at}
 use Rattle.tv_spec_series.proofs.Order.{int_lt-true, int_lt-false}
-use Rattle.tv_spec_series.proofs.Coefficients.{coefficient_below, coefficient_at, coefficient-cut, coefficient-product, upto-cut, value_coefficient}
-use Rattle.tv_laws_families.proofs.Products.{multiples, convolution-multiples, product-below, product-at}
+use Rattle.tv_laws_series.proofs.Coefficients.{coefficient_below, coefficient_at, coefficient-cut, coefficient-product, upto-cut, value_coefficient}
+use Rattle.tv_laws_families.proofs.Products.{multiples, convolution-multiples}
 
 -- what is known of dividend and divisor
 pub record IsGiven {A : Type 0} (IsValue : A → Type 0) (r : Operations A) (n : ℤ) (z g : ℤ → ℤ) (a b : Terms A) : Type 0 where

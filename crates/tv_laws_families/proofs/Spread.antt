@@ -14,7 +14,8 @@ use Rattle.tv_laws_series.specs.Quotients.{series_quotient}
 use Rattle.tv_laws_series.proofs.Exponents.{above_is}
 use Rattle.tv_laws_counts.proofs.Spreads.{after_first, total_below-front, total_below-times}
 use Rattle.tv_spec_series.specs.Reduced.{quotient_size}
-use Rattle.tv_spec_series.proofs.Coefficients.{coefficient_at}
+use Rattle.tv_laws_series.proofs.Coefficients.{coefficient_at}
+use Rattle.tv_spec_series.proofs.Products.{quotient_size_is}
 use Rattle.tv_laws_families.proofs.Rows.{IsGiven, quotient_from, quotient_value}
 
 -- a sum from its last term on
@@ -73,12 +74,12 @@ module _ {A : Type 0} {IsValue : A → Type 0} {r : Operations A} (laws : RingLa
       ∙ (ap (λ k. unsigned_abs (reduced (m -ℤ pos (suc j))) * unsigned_abs (g (pos k))) across
       ∙ mul_comm (unsigned_abs (reduced (m -ℤ pos (suc j)))) (unsigned_abs (g (pos (suc j))))))
 
-  quotient_size_is : (low m : ℤ) → quotient_size z g reduced low (pos 0) m ≡ unsigned_abs (z m) + total_below (turned m) (above low m)
-  unfolding quotient_size
-  quotient_size_is low m =
+  step_size : (low m : ℤ) → quotient_size z g reduced low (pos 0) m ≡ unsigned_abs (z m) + total_below (turned m) (above low m)
+  step_size low m =
       let at : pos 0 +ℤ m ≡ m = omega (arith, ints) in
       let terms = total_below-same (λ j. unsigned_abs (g (pos 0 +ℤ pos (suc j))) * unsigned_abs (reduced (m -ℤ pos (suc j)))) (turned m) (above low m) (λ j h. ap (λ (i : ℤ). unsigned_abs (g i) * unsigned_abs (reduced (m -ℤ pos (suc j)))) (omega (arith, ints))) in
-      ap (λ (i : ℤ). unsigned_abs (z i) + total_below (λ j. unsigned_abs (g (pos 0 +ℤ pos (suc j))) * unsigned_abs (reduced (m -ℤ pos (suc j)))) (above low m)) at ∙ ap (λ t. unsigned_abs (z m) + t) terms
+      quotient_size_is z g reduced low (pos 0) m
+      ∙ (ap (λ (i : ℤ). unsigned_abs (z i) + total_below (λ j. unsigned_abs (g (pos 0 +ℤ pos (suc j))) * unsigned_abs (reduced (m -ℤ pos (suc j)))) (above low m)) at ∙ ap (λ t. unsigned_abs (z m) + t) terms)
 
   pub spread-wide : (place : ℕ) (m : ℤ) → m ≡ a.low +ℤ pos place → place < min (length a.coefficients) (length b.coefficients) → limit < r.size (at r a.coefficients place) + total_below (size_term r (at r (series_quotient r a b).coefficients) (at r b.coefficients) place) place → limit < quotient_size z g reduced (int_min a.low given.least) (pos 0) m * r.size r.unit
   spread-wide place m e h wide =
@@ -91,4 +92,4 @@ module _ {A : Type 0} {IsValue : A → Type 0} {r : Operations A} (laws : RingLa
       let whole : total_below (piece m place) place ≤ total_below (turned m) (above low m) = rw (pieces_turned place m e) longer in
       let grown : total_below (piece m place) place * s ≤ total_below (turned m) (above low m) * s = mul-le (total_below (piece m place) place) s (total_below (turned m) (above low m)) s whole (omega arith) in
       let split = add-mul (unsigned_abs (z m)) (total_below (turned m) (above low m)) s in
-      rw (quotient_size_is low m, split) (omega arith)
+      rw (step_size low m, split) (omega arith)

@@ -11,8 +11,9 @@ use Rattle.tv_laws_series.specs.Terms.{above}
 use Rattle.tv_laws_series.specs.Quotients.{owed}
 use Rattle.tv_laws_series.proofs.Exponents.{above_adds}
 use Rattle.tv_laws_series.proofs.Quotients.{owed_is}
-use Rattle.tv_spec_series.specs.Reduced.{from, product_at, BeginsAt, IsQuotient}
-use Rattle.tv_laws_families.proofs.Products.{product-below, product-at, convolution-last}
+use Rattle.tv_spec_series.specs.Reduced.{product_at, BeginsAt, IsQuotient}
+use Rattle.tv_spec_series.proofs.Products.{from, product-below, product-at}
+use Rattle.tv_laws_families.proofs.Products.{convolution-last}
 
 abbrev pub one_at : ℤ → ℤ
 one_at (pos zero) = pos 1

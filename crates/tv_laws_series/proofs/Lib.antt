@@ -12,4 +12,6 @@ pub mod PolySizes
 pub mod PolyReach
 pub mod PolySizeLaws
 pub mod PolyKept
+pub mod Coefficients
+pub mod PairSums
 mod Values

@@ -4,3 +4,4 @@ pub mod SeriesLaws
 pub mod Quotients
 pub mod QuotientLaws
 pub mod Polynomials
+pub mod Coefficients

@@ -4,6 +4,7 @@
 ghost use Rattle.tv_ring.specs.Operations.{RingLaws, SizeLaws};
 ghost use Rattle.tv_laws_series.specs.Polynomials.{IsPoly, polynomials};
 ghost use Rattle.tv_laws_series.specs.SeriesLaws.{SeriesLaws};
+ghost use Rattle.tv_laws_series.specs.Coefficients.{SumUpto, SumCoefficients, ProductUpto, ProductCoefficients, QuotientUpto, QuotientCoefficients};
 ghost use Rattle.tv_laws_series.specs.QuotientLaws.{QuotientTimesDivisor, DivisionUndoes, OnlyQuotient, QuotientHasValues};
 
 use tv_ring::Ring;
@@ -20,6 +21,26 @@ pub fn quotients_of_series<C: Ring>()
     ensures undoes { DivisionUndoes C.IsValue C.ring }
     ensures only { OnlyQuotient C.IsValue C.ring }
     ensures values { QuotientHasValues C.IsValue C.ring }
+{}
+
+/// A sum is known through the lesser last exponent, and each coefficient of it is the sum of both.
+pub fn coefficients_of_sums<C: Ring>()
+    ensures upto { SumUpto C.ring }
+    ensures coefficients { SumCoefficients C.IsValue C.ring }
+{}
+
+/// A product is known through the lesser of both sums of a low and the other's last exponent, and each coefficient of it is the
+/// sum of the products of all pairs of coefficients that meet there.
+pub fn coefficients_of_products<C: Ring>()
+    ensures upto { ProductUpto C.ring }
+    ensures coefficients { ProductCoefficients C.IsValue C.ring }
+{}
+
+/// A quotient by a series that begins with one is known through the lesser of the dividend's last exponent and the sum of its
+/// low and the divisor's last exponent, and with the divisor it gives each coefficient of the dividend so far.
+pub fn coefficients_of_quotients<C: Ring>()
+    ensures upto { QuotientUpto C.ring }
+    ensures coefficients { QuotientCoefficients C.IsValue C.ring }
 {}
 
 /// Laurent polynomials over a ring are a ring, whose sizes and reaches are bounded as a ring's are.

@@ -2,6 +2,7 @@
 --
 -- map-same            equal values make equal lists
 -- flat_map-same       equal pieces make equal lists; flat_map-same_on, where they are equal on the members
+-- flat_map-flat_map   pieces of pieces are joined piece by piece
 -- flat_map-none       joined pieces are empty where each is; flat_map-last, over a range the last where all others are empty
 -- flat_map-filter     pieces after a filter are empty where the test fails
 -- filter-map          a filter of values is a filter before them
@@ -17,6 +18,7 @@ use Rattle.std.specs.Prelude.{◌≡◌, ℕ, zero, suc, ◌+◌, ◌*◌, ◌<�
 use Rattle.std.specs.List.{flat_map, AllByRecursion, list_any, range_with_len}
 use Rattle.std.proofs.Common.{refl, sym, ap, ◌∙◌, arith, length-append, append-nil, add-zero}
 use Rattle.std.proofs.lemmas.List.{length-map}
+use Rattle.std.proofs.lemmas.List.Concat.{flat_map-append}
 use Rattle.std.proofs.lemmas.List.Elements.{filter-append}
 use Rattle.std.proofs.lemmas.List.Folds.{list_any-append}
 
@@ -31,6 +33,10 @@ flat_map-same f g same (x ∷ xs) = ap (λ ys. ys ++ flat_map f xs) (same x) ∙
 pub flat_map-same_on : {A B : Type 0} (P : A → Type 0) (f g : A → List B) → ((x : A) → P x → f x ≡ g x) → (xs : List A) → AllByRecursion P xs → flat_map f xs ≡ flat_map g xs
 flat_map-same_on P f g same [] all = refl
 flat_map-same_on P f g same (x ∷ xs) all = ap (λ ys. ys ++ flat_map f xs) (same x all.0) ∙ ap (λ ys. g x ++ ys) (flat_map-same_on P f g same xs all.1)
+
+pub flat_map-flat_map : {A B C : Type 0} (f : B → List C) (g : A → List B) (xs : List A) → flat_map f (flat_map g xs) ≡ flat_map (λ x. flat_map f (g x)) xs
+flat_map-flat_map f g [] = refl
+flat_map-flat_map f g (x ∷ xs) = flat_map-append f (g x) (flat_map g xs) ∙ ap (λ ys. flat_map f (g x) ++ ys) (flat_map-flat_map f g xs)
 
 pub flat_map-none : {A B : Type 0} (xs : List A) → flat_map {A = B} (λ (x : A). []) xs ≡ []
 flat_map-none [] = refl

@@ -13,7 +13,7 @@ use Rattle.tv_spec_plane.specs.Graded.{IsGraded}
 use Rattle.tv_spec_boxes.specs.Assignments.{no_legs}
 use Rattle.tv_spec_series.specs.Families.{coefficient}
 use Rattle.tv_spec_series.specs.Reduced.{zero_coefficient}
-use Rattle.tv_spec_series.proofs.Coefficients.{coefficient_below, coefficient_at}
+use Rattle.tv_laws_series.proofs.Coefficients.{coefficient_below, coefficient_at}
 use Rattle.tv_spec_series.specs.ReducedFamilies.{IsDivisor}
 use Rattle.tv_laws_families.proofs.ZeroClass.{begins_with_one}
 use Rattle.tv_reduced.specs.Divisors.{counted, from_zero}

@@ -10,7 +10,7 @@ use Rattle.tv_laws_series.specs.Terms.{Terms, above, upto}
 use Rattle.tv_laws_series.proofs.Exponents.{above_is}
 use Rattle.tv_laurent.specs.QuotientCalls.{QuotientReaches}
 use Rattle.tv_spec_series.specs.Families.{coefficient}
-use Rattle.tv_spec_series.proofs.Coefficients.{coefficient_at}
+use Rattle.tv_laws_series.proofs.Coefficients.{coefficient_at}
 
 -- each coefficient that is known is a multiple of one
 abbrev pub AreMultiples : {A : Type 0} → Operations A → Terms A → (ℤ → ℤ) → Type 0

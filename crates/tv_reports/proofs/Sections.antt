@@ -11,7 +11,7 @@ use Rattle.tv_laws_series.specs.Terms.{Terms, above, upto}
 use Rattle.tv_laws_series.proofs.Exponents.{above_is, above_adds}
 use Rattle.tv_spec_text.specs.Reports.{Term, Section, Rises, IsAmong, IsTerm, AreTerms}
 use Rattle.tv_spec_series.specs.Families.{Row, Family, coefficient, IsRow}
-use Rattle.tv_spec_series.proofs.Coefficients.{coefficient_below, coefficient_at}
+use Rattle.tv_laws_series.proofs.Coefficients.{coefficient_below, coefficient_at}
 use Rattle.tv_reports.specs.Sections.{IsSmallTerm, terms_from, terms_of, section_of, TellsRow, SectionsTell}
 
 at_head : (x : ℤ) (xs : List ℤ) → at wholes (x ∷ xs) 0 ≡ x

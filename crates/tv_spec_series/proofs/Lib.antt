@@ -1,8 +1,8 @@
 mod Values
 mod ReducedValues
 pub mod Order
-pub mod Coefficients
 pub mod Rows
 pub mod Members
 pub mod Sums
 pub mod Divided
+pub mod Products

@@ -17,7 +17,7 @@ use Rattle.tv_spec_boxes.specs.Assignments.{same_vector}
 use Rattle.tv_spec_series.specs.Families.{Row, Family, row, classes, coefficient, find, added, with_series, series_coefficient, coefficient_of, without_rows, IsRow, IsFamily, IsAddend}
 use Rattle.tv_spec_boxes.proofs.Vectors.{same_vector_tells}
 use Rattle.tv_spec_series.proofs.Order.{same_vector-equal}
-use Rattle.tv_spec_series.proofs.Coefficients.{same_series, upto-sum, upto-cut, coefficient-cut, coefficient-sum, value_coefficient}
+use Rattle.tv_laws_series.proofs.Coefficients.{same_series, upto-sum, upto-cut, coefficient-cut, coefficient-sum, value_coefficient}
 use Rattle.tv_spec_series.proofs.Rows.{find-nil, found_all, classes_all, all_rows, put_all, put_rises, find-put, find-put_other, same_rows}
 
 -- a row that was found has a series that is known through n, and one that was not may have any

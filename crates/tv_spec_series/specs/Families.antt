@@ -5,7 +5,6 @@
 -- row v s                 == the row of the class v with the series s
 -- without_rows hs top n   == the family that has no row
 -- classes rows            == the classes of the rows
--- coefficient r t n       == the coefficient of a series at n: nought below its lowest exponent and beyond its last
 -- entries_before u v      == whether, at the first entry where the vectors differ, that of u is the lesser
 -- comes_before hs u v     == whether u has the lesser degree, or the same degree and the lesser entries
 -- find v rows             == the first row of the class v, None where it is not there
@@ -13,6 +12,8 @@
 -- added r v s f           == the family with s added into the class v
 -- divided_row r z x       == the row with its series divided by z
 -- divided r z f           == the family with each series divided by z
+-- cut_row n x             == the row with its series cut after n
+-- cut n f                 == the family with each series cut after n
 -- with_series r n s found == s, added to the series of the row that was found, through the exponent n
 -- series_coefficient r n found == the coefficient at n of the series of the row that was found, and nought where there is none
 -- coefficient_of r f v n  == the coefficient at n of the series of the class v, and nought where v is not there
@@ -24,8 +25,8 @@ use Rattle.std.specs.Prelude.{◌≡◌, ℤ, pos, ◌≤ℤ◌, int_lt, Bool, f
 use Rattle.std.specs.List.{AllByRecursion}
 use Rattle.std.specs.Ordering.{int_eq}
 use Rattle.tv_ring.specs.Operations.{Operations}
-use Rattle.tv_ring.specs.Sums.{at}
-use Rattle.tv_laws_series.specs.Terms.{Terms, above, upto, IsWithin}
+use Rattle.tv_laws_series.specs.Terms.{Terms, upto, IsWithin}
+unfoldable pub use Rattle.tv_laws_series.specs.Coefficients.{coefficient}
 use Rattle.tv_laws_series.specs.Series.{series_sum, series_cut, IsSeries}
 use Rattle.tv_laws_series.specs.Quotients.{series_quotient}
 use Rattle.tv_spec_plane.specs.Web.{degree_of}
@@ -50,9 +51,6 @@ without_rows hs top n = record { heights = hs; top = top; upto = n; rows = [] }
 
 abbrev pub classes : {A : Type 0} → List (Row A) → List (List ℤ)
 classes rows = map (λ row. row.class) rows
-
-unfoldable pub coefficient : {A : Type 0} → Operations A → Terms A → ℤ → A
-coefficient r t n = if int_lt n t.low then r.nought else at r t.coefficients (above t.low n)
 
 abbrev pub entries_before : List ℤ → List ℤ → Bool
 entries_before [] v = false
@@ -81,6 +79,12 @@ divided_row r z x = row x.class (series_quotient r x.series z)
 
 abbrev pub divided : {A : Type 0} → Operations A → Terms A → Family A → Family A
 divided r z f = record f { rows = map (divided_row r z) f.rows }
+
+abbrev pub cut_row : {A : Type 0} → ℤ → Row A → Row A
+cut_row n x = row x.class (series_cut n x.series)
+
+abbrev pub cut : {A : Type 0} → ℤ → Family A → Family A
+cut n f = record f { upto = n; rows = map (cut_row n) f.rows }
 
 abbrev pub with_series : {A : Type 0} → Operations A → ℤ → Terms A → Option (Row A) → Terms A
 with_series r n s None = series_cut n s

@@ -1,7 +1,6 @@
 -- The reduced series: what is left of the full series of a class when that of class zero is divided out.
 -- A series is a function from exponents to whole numbers that is 0 below some exponent.
 --
--- from f m k           == f at the exponent m + k
 -- product_at low first f g n == the coefficient at n of the product of f, which is 0 below low, and g, which is 0 below first
 -- BeginsAt first g     == g is 0 below first, and not 0 there
 -- IsQuotient n z g f   == f is 0 below some exponent, g begins at some exponent `first`, and the product of f and g is z at
@@ -15,20 +14,17 @@
 --                         being 0 below low: what is added up in a division by g, which begins at first, to get f at m
 -- IsSpread w fixed n v m k == for m at most n, k is that number at m of the reduced series of v through n. It asks nothing of
 --                         the degree of v
-use Rattle.std.specs.Prelude.{◌≡◌, ◌≢◌, ℕ, suc, ◌+◌, ◌-◌, ◌*◌, ℤ, pos, ◌+ℤ◌, ◌-ℤ◌, ◌≤ℤ◌, ◌<ℤ◌, unsigned_abs, int_lt, List, length, if◌then◌else◌}
-use Rattle.tv_ring.specs.Whole.{wholes}
-use Rattle.tv_ring.specs.Sums.{convolution, total_below}
-use Rattle.tv_laws_series.specs.Terms.{above}
-use Rattle.tv_spec_plane.specs.Web.{Web}
+use Rattle.std.specs.Prelude.{◌≡◌, ◌≢◌, ℕ, suc, ◌+◌, ◌*◌, ℤ, pos, ◌+ℤ◌, ◌-ℤ◌, ◌≤ℤ◌, ◌*ℤ◌, ◌<ℤ◌, unsigned_abs, List, length}
+use Rattle.tv_lemmas.specs.Naturals.{as_natural}
+use Rattle.tv_lemmas.specs.Sums.{total, sum_of}
+use Rattle.tv_spec_plane.specs.Web.{Web, below}
 use Rattle.tv_spec_boxes.specs.Assignments.{Rows, zeros}
 use Rattle.tv_spec_boxes.specs.Configurations.{signed_count}
 
-abbrev pub from : (ℤ → ℤ) → ℤ → ℕ → ℤ
-from f m k = f (m +ℤ pos k)
-
+-- the terms with exponents low + k of f and at least first of g
 unfoldable pub product_at : ℤ → ℤ → (ℤ → ℤ) → (ℤ → ℤ) → ℤ → ℤ
 product_at low first f g n =
-    if int_lt n (low +ℤ first) then pos 0 else convolution wholes (from f low) (from g first) (above (low +ℤ first) n)
+    total (λ k. f (low +ℤ pos k) *ℤ g ((n -ℤ low) -ℤ pos k)) (below (as_natural (((n -ℤ low) -ℤ first) +ℤ pos 1)))
 
 pub record BeginsAt (first : ℤ) (g : ℤ → ℤ) : Type 0 where
   pub none : (m : ℤ) → m <ℤ first → g m ≡ pos 0
@@ -50,11 +46,11 @@ zero_coefficient w fixed n = signed_count w fixed (zeros (length w.points)) n
 abbrev pub IsReduced : Web → List Rows → ℤ → List ℤ → (ℤ → ℤ) → Type 0
 IsReduced w fixed n v f = IsQuotient n (full_coefficient w fixed v) (zero_coefficient w fixed) f
 
--- the terms with j up to m - low
+-- the terms with j from 1 to m - low
 unfoldable pub quotient_size : (ℤ → ℤ) → (ℤ → ℤ) → (ℤ → ℤ) → ℤ → ℤ → ℤ → ℕ
 quotient_size z g f low first m =
     unsigned_abs (z (first +ℤ m))
-    + total_below (λ j. unsigned_abs (g (first +ℤ pos (suc j))) * unsigned_abs (f (m -ℤ pos (suc j)))) (above low m)
+    + sum_of (λ j. unsigned_abs (g (first +ℤ pos (suc j))) * unsigned_abs (f (m -ℤ pos (suc j)))) (below (as_natural (m -ℤ low)))
 
 pub record IsSpread (w : Web) (fixed : List Rows) (n : ℤ) (v : List ℤ) (m : ℤ) (k : ℕ) : Type 0 where
   pub series : ℤ → ℤ

@@ -1,5 +1,5 @@
 -- The coefficients of sums and of cut series, exponent by exponent, and series that are told apart by them.
-use Rattle.std.proofs.Common.{◌≡◌, ℕ, ◌-◌, ◌<◌, ◌≤◌, min, ℤ, pos, ◌+ℤ◌, ◌<ℤ◌, ◌≤ℤ◌, int_lt, if◌then◌else◌, take, refl, sym, ◌∙◌, ap, arith, length}
+use Rattle.std.proofs.Common.{◌≡◌, ℕ, ◌-◌, ◌<◌, ◌≤◌, min, ℤ, pos, ◌+ℤ◌, ◌<ℤ◌, ◌≤ℤ◌, int_lt, true, false, if◌then◌else◌, take, refl, sym, ◌∙◌, ap, arith, length}
 use Rattle.std.specs.Int.{int_min}
 use Rattle.std.proofs.lemmas.Int.{ints, clamps, by_lt_z}
 use Rattle.std.proofs.lemmas.List.{length-take}
@@ -14,18 +14,23 @@ use Rattle.tv_laws_series.proofs.Exponents.{above_is, above_adds}
 use Rattle.tv_laws_series.proofs.Listed.{length-listed, at-listed, at-take, at_past}
 use Rattle.tv_laws_series.proofs.Padded.{padded_before, padded_after, scaled_is}
 use Rattle.tv_laws_series.proofs.SeriesFrom.{from_is, same_terms, known-sum, from-sum, from-product}
-use Rattle.tv_spec_series.specs.Families.{coefficient}
-use Rattle.tv_spec_series.proofs.Order.{int_lt-true, int_lt-false}
+use Rattle.tv_laws_series.specs.Coefficients.{coefficient}
 
 coefficient_is : {A : Type 0} (r : Operations A) (t : Terms A) (n : ℤ) → coefficient r t n ≡ (if int_lt n t.low then r.nought else at r t.coefficients (above t.low n))
 unfolding coefficient
 coefficient_is r t n = refl
 
 pub coefficient_below : {A : Type 0} (r : Operations A) (t : Terms A) (n : ℤ) → n <ℤ t.low → coefficient r t n ≡ r.nought
-coefficient_below r t n h = let b = int_lt-true n t.low h in rw (coefficient_is r t n, b) refl
+coefficient_below r t n h = let b = int_lt-is n t.low h in rw (coefficient_is r t n, b) refl
+  where
+    int_lt-is : (a b : ℤ) → a <ℤ b → int_lt a b ≡ true
+    int_lt-is a b h = grind (arith, ints)
 
 pub coefficient_at : {A : Type 0} (r : Operations A) (t : Terms A) (n : ℤ) → t.low ≤ℤ n → coefficient r t n ≡ at r t.coefficients (above t.low n)
-coefficient_at r t n h = let b = int_lt-false n t.low h in rw (coefficient_is r t n, b) refl
+coefficient_at r t n h = let b = int_lt-not n t.low h in rw (coefficient_is r t n, b) refl
+  where
+    int_lt-not : (a b : ℤ) → b ≤ℤ a → int_lt a b ≡ false
+    int_lt-not a b h = grind (arith, ints)
 
 -- counted from an exponent at or below the lowest one
 pub coefficient-from : {A : Type 0} (r : Operations A) (m : ℤ) (t : Terms A) (k : ℕ) → m ≤ℤ t.low → coefficient r t (m +ℤ pos k) ≡ from r m t k
