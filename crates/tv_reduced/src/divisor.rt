@@ -13,17 +13,19 @@ ghost use Rattle.tv_reduced.specs.Divisors.{counted, from_zero};
 
 use crate::fault::ReducedFault;
 use std::alloc::Global;
+use tv_assignment::Corners;
 use tv_degrees::grade::GradedWeb;
-use tv_glue::{GlueFault, full};
+use tv_glue::{GlueFault, full_over};
 use tv_graded::Graded;
 use tv_laurent::{Coefficient, Series};
 use tv_ring::{Ring, RingFault};
 
-/// The series of class zero, from exponent 0 and through `order`.
+/// The series of class zero, from exponent 0 and through `order`, over the series of corners that are kept.
 pub fn divisor<C: Ring>(
     alloc: Global,
     web: &GradedWeb,
     order: u32,
+    corners: &mut Corners<C>,
 ) -> Result<Series<C>, ReducedFault>
     requires { order ≤ 100000000 }
     ensures divisor { IfOk result (λ b. IsDivisor C.ring web.now (no_legs web.now) b) }
@@ -31,7 +33,7 @@ pub fn divisor<C: Ring>(
     ensures wide { IfErr result (λ e. OnCrowd e (IsCrowded C.ring web.now 0 (pos order))) }
 {
     web.known();
-    match full(alloc, web, 0, i64::from(order)) {
+    match full_over(alloc, web, 0, i64::from(order), corners) {
         Ok(zeros) => of_family(alloc, web, &zeros, order),
         Err(GlueFault::Wide(class)) => Err(ReducedFault::Crowd(class)),
         Err(GlueFault::Memory) => Err(ReducedFault::Memory),

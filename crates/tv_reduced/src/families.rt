@@ -17,8 +17,9 @@ use crate::divisor::divisor;
 use crate::fault::ReducedFault;
 use crate::order::order_of;
 use std::alloc::Global;
+use tv_assignment::Corners;
 use tv_degrees::grade::GradedWeb;
-use tv_glue::{GlueFault, full};
+use tv_glue::{GlueFault, full_over};
 use tv_graded::{Graded, GradedFault};
 use tv_laurent::Series;
 use tv_ring::Ring;
@@ -41,10 +42,11 @@ pub fn reduced<C: Ring>(
 {
     web.known();
     lowest_known(web, d);
-    let family = full_family(alloc, web, d, n)?;
+    let mut corners = Corners::new(alloc);
+    let family = full_family(alloc, web, d, n, &mut corners)?;
     family.known();
     let order = order_of(&family, n);
-    match divisor(alloc, web, order as u32) {
+    match divisor(alloc, web, order as u32, &mut corners) {
         Ok(zero) => {
             zero.known();
             divided_by(&family, &zero)
@@ -74,13 +76,14 @@ fn full_family<C: Ring>(
     web: &GradedWeb,
     d: u32,
     n: i64,
+    corners: &mut Corners<C>,
 ) -> Result<Graded<C>, ReducedFault>
     requires degree { d ≤ 24 }
     requires order { unsigned_abs n ≤ 64 }
     ensures full { IfOk result (λ family. IsFull C.ring web.now (no_legs web.now) d n family) }
     ensures wide { IfErr result (λ e. OnCrowd e (IsCrowded C.ring web.now d n)) }
 {
-    match full(alloc, web, d, n) {
+    match full_over(alloc, web, d, n, corners) {
         Ok(family) => Ok(family),
         Err(GlueFault::Wide(class)) => Err(ReducedFault::Crowd(class)),
         Err(GlueFault::Memory) => Err(ReducedFault::Memory),

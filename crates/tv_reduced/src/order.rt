@@ -1,7 +1,6 @@
 //! How far the series of class zero has to be known for a division. It divides nothing.
 
 ghost use Rattle.std.specs.Prelude.{◌≡◌, ◌≤◌, ◌<◌, ◌^◌, ◌-ℤ◌, ◌≤ℤ◌, pos, take, length, unsigned_abs, slice_get, Some, IfSome};
-ghost use Rattle.std.specs.Int.{int_max};
 ghost use Rattle.tv_reduced.specs.Orders.{IsOrder};
 
 use tv_graded::Graded;
@@ -12,9 +11,9 @@ pub fn order_of<C: Ring>(family: &Graded<C>, n: i64) -> i64
     requires { unsigned_abs n ≤ 64 }
     ensures { IsOrder n family.now.rows result }
 {
-    let mut order = 0;
+    let mut order: i64 = 0;
     for k in 0..family.len() {
-        order = greater(order, distance(family, k, n));
+        order = order.max(distance(family, k, n));
     }
     order
 }
@@ -33,10 +32,4 @@ fn distance<C: Ring>(family: &Graded<C>, k: usize, n: i64) -> i64
         }
         None => unreachable!(),
     }
-}
-
-fn greater(a: i64, b: i64) -> i64
-    ensures { result ≡ int_max a b }
-{
-    if a < b { b } else { a }
 }
