@@ -17,7 +17,7 @@ use Rattle.tv_degrees.specs.Edges.{edge_at, no_edge, with_heights}
 use Rattle.tv_degrees.specs.Grades.{IsFirstLow}
 use Rattle.tv_spec_plane.specs.Graded.{HasDegree, IsGraded}
 use Rattle.tv_text.specs.Faults.{IsText}
-use Rattle.tv_top.specs.Acceptance.{is_json, turned_web, IsAccepted, IsSound, IsUnsound, IsLowEdge}
+use Rattle.tv_top.specs.Acceptance.{begins_as_json, turned_web, IsAccepted, IsSound, IsUnsound, IsLowEdge}
 use Rattle.tv_top.specs.Rejections.{IsRefused}
 
 tiled : (file : Web) (m : Mesh) → IsWithinLimits file → PassesChecks file.points file.triangles m → IsTiled file.points file.triangles
@@ -80,7 +80,7 @@ unsound_answer w (Fault (Unmatched a b)) h = h
 unsound_answer w (Fault (Bare a b)) h = h
 
 -- what is left of the bytes' own checks
-pub accepted_or_refused : (bytes : List ℕ) (file : Web) (r : Result Web InputError) → is_json bytes ≡ false → IsText bytes file → MatchResult r (IsSound file) (IsUnsound file) → MatchResult r (IsAccepted bytes) (IsRefused bytes)
+pub accepted_or_refused : (bytes : List ℕ) (file : Web) (r : Result Web InputError) → begins_as_json bytes ≡ false → IsText bytes file → MatchResult r (IsSound file) (IsUnsound file) → MatchResult r (IsAccepted bytes) (IsRefused bytes)
 accepted_or_refused bytes file (Ok w) j t h = record { file = file; not_json = j; text = t; sound = h }
 accepted_or_refused bytes file (Err Memory) j t h = tt
 accepted_or_refused bytes file (Err (Fault TooLong)) j t h = absurd h.1

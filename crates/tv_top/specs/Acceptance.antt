@@ -1,6 +1,6 @@
 -- Which bytes the program takes as a file, and the web that they give.
 --
--- is_json bytes       == the first byte is `{`, a space, a tab, LF or CR
+-- begins_as_json bytes       == the first byte is `{`, a space, a tab, LF or CR
 -- turned_web file     == the web with the file's points and heights, and its triangles turned counter-clockwise
 -- IsSound file w      == the points are distinct and not all on one line, the triangles are unimodular and tile the hull,
 --                        there are as many heights as points, w is the file with its triangles turned, and every compact
@@ -25,9 +25,9 @@ use Rattle.tv_triangulation.specs.Triangulated.{IsTiled}
 use Rattle.tv_degrees.specs.Grades.{IsFirstLow}
 use Rattle.tv_spec_plane.specs.Graded.{IsGraded}
 
-abbrev pub is_json : List ℕ → Bool
-is_json [] = false
-is_json (b ∷ bytes) = nat_eq b 123 || (nat_eq b 32 || (nat_eq b 9 || (nat_eq b 10 || nat_eq b 13)))
+abbrev pub begins_as_json : List ℕ → Bool
+begins_as_json [] = false
+begins_as_json (b ∷ bytes) = nat_eq b 123 || (nat_eq b 32 || (nat_eq b 9 || (nat_eq b 10 || nat_eq b 13)))
 
 abbrev pub turned_web : Web → Web
 turned_web file = record file { triangles = turned file.points file.triangles }
@@ -40,7 +40,7 @@ pub record IsSound (file w : Web) : Type 0 where
 
 pub record IsAccepted (bytes : List ℕ) (w : Web) : Type 0 where
   pub file : Web
-  pub not_json : is_json bytes ≡ false
+  pub not_json : begins_as_json bytes ≡ false
   pub text : IsText bytes file
   pub sound : IsSound file w
 

@@ -7,16 +7,18 @@
 -- DeservesDone ws io text  == the text is the report, for the command that the words ask for, of the accepted file that was
 --                             read
 -- DeservesWords ws io text == the text names the place at which the words leave every word list
--- DeservesFile ws io text  == the text names the first check that the file fails, of which at most MAX_BYTES + 1 bytes were
---                             taken
--- DeservesWide ws io text  == the text names a number beyond 2^127 - 1 that the command needs of the accepted file
+-- DeservesFile ws io text  == the text names the first check that the file fails, of which all bytes were taken, or exactly
+--                             MOST_BYTES + 1
+-- DeservesWide ws io text  == the text names a bound of the command's work on the accepted file that passes 2^127 - 1
 -- DeservesRead ws io text  == the words are a command's, one read failed, and the text is that of a failed read
 -- Deserves ws io status text == the status and its text are deserved by these words and this source
 -- Told out text status result == a beginning of the text was appended to the sink, in at most a write for each byte: all of
---                             it, with the status, or less, with one write more, which failed, and WriteFault
--- Reads ws io             == whatever is answered, at most MAX_BYTES + 1 bytes were taken from the source, from the front,
---                             each read but the last took one at least, and nothing was read where the words are refused
--- Answers ws io out result == some status and text are deserved, and were told
+--                             it, and the result is the status; or less, then one write failed, and it is WriteFault
+-- Reads ws io             == whatever is answered, at most MOST_BYTES + 1 bytes were taken from the source, from the front,
+--                             in at most one read more than bytes, and nothing was read where the words are refused
+-- Answers ws io out result == some status and text are deserved, and were told. Where a source or a sink doesn't tell its
+--                             bytes, what is said of them holds of None; a run can't ask whether they tell, so what it does
+--                             is the same over those that do. Want of memory is deserved always
 use Rattle.std.specs.Prelude.{◌≡◌, ℕ, ◌+◌, ◌≤◌, ◌⊎◌, pos, List, [], ◌∷◌, length, take, codes}
 use Rattle.std.specs.Io.KnownBytes.{Appends, Consumes, IsAtEnd}
 use Rattle.tv_spec_plane.specs.Web.{Web}
@@ -31,7 +33,7 @@ use Rattle.tv_top.specs.Commands.{Asks, IsCommand}
 use Rattle.tv_top.specs.Acceptance.{IsAccepted}
 use Rattle.tv_top.specs.Rejections.{FaultOf}
 use Rattle.tv_top.specs.Reports.{IsReport, IsWide}
-use Rattle.tv_top.specs.declared.acceptance.TheConstants.{MAX_BYTES}
+use Rattle.tv_text.specs.declared.file.TheConstants.{MOST_BYTES}
 use Rattle.tv_top.specs.declared.command.Command.{Command}
 use Rattle.tv_top.specs.declared.status.Status.{Status}
 use Rattle.tv_top.specs.declared.status.Status.TheVariants.{Done, Words, File, Wide, Differs, Memory, ReadFault, WriteFault}
@@ -71,7 +73,7 @@ pub record DeservesFile (ws : List Word) (io : Change) (text : List ℕ) : Type 
   pub fault : FileFault
   pub asked : Asks ws command
   pub taken : Consumes io.before.bytes io.after.bytes bytes
-  pub ended : (length bytes ≡ MAX_BYTES + 1) ⊎ ((length bytes ≤ MAX_BYTES) × IsAtEnd io.after.bytes)
+  pub ended : (length bytes ≡ MOST_BYTES + 1) ⊎ ((length bytes ≤ MOST_BYTES) × IsAtEnd io.after.bytes)
   pub kept : io.after.faults ≡ io.before.faults
   pub refused : FaultOf bytes fault
   pub line : text ≡ line_text (fault_line fault)
@@ -112,7 +114,7 @@ pub record Told (out : Change) (text : List ℕ) (status result : Status) : Type
 pub record Reads (ws : List Word) (io : Change) : Type 0 where
   pub bytes : List ℕ
   pub taken : Consumes io.before.bytes io.after.bytes bytes
-  pub within : length bytes ≤ MAX_BYTES + 1
+  pub within : length bytes ≤ MOST_BYTES + 1
   pub calls : io.after.calls ≤ io.before.calls + length bytes + 1
   pub later : io.before.faults ≤ io.after.faults
   pub unread : (k : ℕ) → IsPlace IsCommand ws k → io.after ≡ io.before

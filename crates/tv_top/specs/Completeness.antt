@@ -1,11 +1,11 @@
--- What a run must answer, where nothing fails.
+-- What a run must answer, where nothing fails. It follows from what each status deserves, and says which answers are left.
 --
--- Completes ws io out result == where the source tells its bytes and no count of faults rises:
+-- Completes ws io out result == where no count of faults rises, and, for the first two, the source tells its bytes:
 --   accepted: a command and an accepted file give Done, or Wide with its cause, or want of memory
 --   refused:  a command and a file that is refused give File, or want of memory
 --   words:    words that are no command give Words, or want of memory, whatever the source holds
 -- NothingFails io out == no count of faults rose in the call, and none stood at its last number
--- IsTooWide c w       == a number that the command needs of the web is beyond 2^127 - 1
+-- IsTooWide c w       == a bound of the command's work on the web passes 2^127 - 1
 use Rattle.std.specs.Prelude.{◌≡◌, ◌⊎◌, ℕ, List, Some}
 use Rattle.tv_spec_plane.specs.Web.{Web}
 use Rattle.tv_spec_text.specs.Lines.{Word, Line}

@@ -11,20 +11,20 @@ use Rattle.tv_lattice.specs.declared.fault.FileFault.TheVariants.{TooLong, Json,
 use Rattle.tv_lattice.specs.declared.fault.InputError.{InputError}
 use Rattle.tv_lattice.specs.declared.fault.InputError.TheVariants.{Fault as Refusal, Memory}
 use Rattle.tv_text.specs.Faults.{IsText, IsTextFault}
-use Rattle.tv_top.specs.Acceptance.{is_json, IsUnsoundBy}
-use Rattle.tv_top.specs.declared.acceptance.TheConstants.{MAX_BYTES}
+use Rattle.tv_top.specs.Acceptance.{begins_as_json, IsUnsoundBy}
+use Rattle.tv_text.specs.declared.file.TheConstants.{MOST_BYTES}
 
 pub record IsWebFault (bytes : List ℕ) (f : FileFault) : Type 0 where
   pub web : Web
-  pub not_json : is_json bytes ≡ false
+  pub not_json : begins_as_json bytes ≡ false
   pub text : IsText bytes web
   pub unsound : IsUnsoundBy web f
 
 abbrev pub FaultOf : List ℕ → FileFault → Type 0
-FaultOf bytes TooLong = MAX_BYTES < length bytes
-FaultOf bytes Json = (length bytes ≤ MAX_BYTES) × (is_json bytes ≡ true)
-FaultOf bytes (Line n) = (is_json bytes ≡ false) × IsTextFault bytes (Refusal (Line n))
-FaultOf bytes (TooMany e) = (is_json bytes ≡ false) × IsTextFault bytes (Refusal (TooMany e))
+FaultOf bytes TooLong = MOST_BYTES < length bytes
+FaultOf bytes Json = (length bytes ≤ MOST_BYTES) × (begins_as_json bytes ≡ true)
+FaultOf bytes (Line n) = (begins_as_json bytes ≡ false) × IsTextFault bytes (Refusal (Line n))
+FaultOf bytes (TooMany e) = (begins_as_json bytes ≡ false) × IsTextFault bytes (Refusal (TooMany e))
 FaultOf bytes f = IsWebFault bytes f
 
 abbrev pub IsRefused : List ℕ → InputError → Type 0

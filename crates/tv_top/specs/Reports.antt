@@ -4,9 +4,10 @@
 -- IsCrowdLine w d n line  == the line names a class that has too many configurations
 -- IsSpreadLine w d n line == the line names a class and an exponent at which the numbers that meet in its division are too
 --                            large
--- IsSeriesWide k w d n line == a number that the series of that kind needs is beyond 2^127 - 1, and the line names it
+-- IsSeriesWide k w d n line == a bound of the work on the series of that kind passes 2^127 - 1, and the line names where. The
+--                            bounds are this project's own: one may pass it though each coefficient is small
 -- IsReport c w text == the text is the command's report of the web
--- IsWide c w line   == a number that the command needs is beyond 2^127 - 1, and the line names it
+-- IsWide c w line   == a bound of the command's work passes 2^127 - 1, and the line names some place where it does
 use Rattle.std.specs.Prelude.{◌≡◌, ◌⊎◌, ℕ, ℤ, List}
 use Rattle.tv_spec_plane.specs.Web.{Web}
 use Rattle.tv_spec_text.specs.Lines.{Line}

@@ -7,7 +7,7 @@ ghost use Rattle.tv_triangulation.specs.Faults.{IsAccepted as PassesChecks};
 ghost use Rattle.tv_web.specs.Built.{bare_web};
 ghost use Rattle.tv_degrees.specs.Edges.{with_heights};
 ghost use Rattle.tv_spec_plane.specs.Graded.{IsGraded};
-ghost use Rattle.tv_top.specs.Acceptance.{is_json, IsAccepted, IsSound, IsUnsound, IsLowEdge};
+ghost use Rattle.tv_top.specs.Acceptance.{begins_as_json, IsAccepted, IsSound, IsUnsound, IsLowEdge};
 ghost use Rattle.tv_top.specs.Rejections.{IsRefused};
 
 use std::alloc::Global;
@@ -15,23 +15,20 @@ use tv_degrees::fault::DegreeFault;
 use tv_degrees::grade::{GradedWeb, grade};
 use tv_lattice::fault::{FileFault, InputError};
 use tv_lattice::file::FileData;
-use tv_text::file::read_file;
+use tv_text::file::{MOST_BYTES, read_file};
 use tv_triangulation::Triangulation;
 use tv_triangulation::triangulate::triangulate;
 use tv_web::web::build_web;
-
-/// The greatest number of bytes of a file.
-pub const MAX_BYTES: usize = 65_536;
 
 /// The web of the file that the bytes spell, with its triangles turned counter-clockwise. The checks come in the order:
 /// too long, JSON, the grammar, the limits, the points and triangles, the number of heights, the degrees.
 pub fn accept(alloc: Global, bytes: &[u8]) -> Result<GradedWeb, InputError>
     ensures { MatchResult result (IsAccepted bytes.now) (IsRefused bytes.now) }
 {
-    if bytes.len() > MAX_BYTES {
+    if bytes.len() > MOST_BYTES {
         return Err(InputError::Fault(FileFault::TooLong));
     }
-    if is_json(bytes) {
+    if begins_as_json(bytes) {
         return Err(InputError::Fault(FileFault::Json));
     }
     match read_file(alloc, bytes) {
@@ -40,8 +37,8 @@ pub fn accept(alloc: Global, bytes: &[u8]) -> Result<GradedWeb, InputError>
     }
 }
 
-fn is_json(bytes: &[u8]) -> bool
-    ensures { result ≡ is_json bytes.now }
+fn begins_as_json(bytes: &[u8]) -> bool
+    ensures { result ≡ begins_as_json bytes.now }
 {
     match bytes.first() {
         Some(byte) => {

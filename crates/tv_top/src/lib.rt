@@ -15,7 +15,7 @@ mod telling;
 #[cfg(test)]
 mod tests;
 
-pub use acceptance::{MAX_BYTES, accept};
+pub use acceptance::accept;
 pub use command::{Command, MAX_DEGREE, MAX_ORDER, MIN_ORDER, WordsError, parse_words};
 pub use running::run;
 pub use status::Status;

@@ -5,7 +5,7 @@ ghost use Rattle.tv_top.specs.Commands.{Asks, IsAsked};
 ghost use Rattle.tv_top.specs.Answers.{Reads};
 ghost use Rattle.tv_top.specs.Replies.{IsCarriedOut, IsJudged, Replies};
 
-use crate::acceptance::{MAX_BYTES, accept};
+use crate::acceptance::accept;
 use crate::answer::{Answer, Failure, refuse, reject};
 use crate::check::check_answer;
 use crate::command::{Command, WordsError, parse_words};
@@ -15,6 +15,7 @@ use std::alloc::Global;
 use tv_degrees::grade::GradedWeb;
 use tv_lattice::fault::{FileFault, InputError};
 use tv_outside::{ReadEnd, Source, read_all};
+use tv_text::file::MOST_BYTES;
 use tv_text::refusal::Refusal;
 
 /// What the words and the source deserve. The words are looked at first, and nothing is read where they are refused.
@@ -45,7 +46,7 @@ fn over_source<S: Source>(
     ensures reads { (ws : List (List ℕ)) → Asks ws command →
         Reads ws (record { before = S.seen source.old; after = S.seen source.new }) }
 {
-    match read_all(alloc, source, MAX_BYTES) {
+    match read_all(alloc, source, MOST_BYTES) {
         Ok(bytes) => judge(alloc, &bytes, command),
         Err(ReadEnd::TooLong) => reject(alloc, FileFault::TooLong),
         Err(ReadEnd::Fault) => Err(Failure::Read),

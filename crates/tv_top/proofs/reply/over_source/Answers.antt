@@ -1,6 +1,6 @@
 use Rattle.std.proofs.Common.{◌≡◌, ◌+◌, ◌≤◌, List, ℕ, length, arith, ◌∙◌, subst}
 use Rattle.tv_top.specs.Replies.{IsJudged}
-use Rattle.tv_top.specs.declared.acceptance.TheConstants.{MAX_BYTES}
+use Rattle.tv_text.specs.declared.file.TheConstants.{MOST_BYTES}
 use Rattle.tv_top.proofs.RejectedReply.{too_long_reply, judged_reply, command_reads}
 use Rattle.tv_top.proofs.reply.over_source.Goals as goal
 
@@ -15,7 +15,7 @@ returns-in-Err-TooLong-clause-reads g c = λ ws q.
     let takes = c.in-Err-TooLong.ensures in
     let outcome = rw c.in-Err-TooLong.field-0-is at takes.outcome in
     let count = outcome.0 in
-    let within : length takes.bytes ≤ MAX_BYTES + 1 = omega arith in
+    let within : length takes.bytes ≤ MOST_BYTES + 1 = omega arith in
     command_reads ws _ c.args.command takes.bytes q takes.taken within takes.calls takes.later
 
 pub returns-in-Err-Fault-clause-reads : goal.returns-in-Err-Fault-clause-reads
@@ -23,7 +23,7 @@ returns-in-Err-Fault-clause-reads g c = λ ws q.
     let takes = c.in-Err-Fault.ensures in
     let outcome = rw c.in-Err-Fault.field-0-is at takes.outcome in
     let count = outcome.0 in
-    let within : length takes.bytes ≤ MAX_BYTES + 1 = omega arith in
+    let within : length takes.bytes ≤ MOST_BYTES + 1 = omega arith in
     command_reads ws _ c.args.command takes.bytes q takes.taken within takes.calls takes.later
 
 pub returns-in-Err-Memory-clause-reads : goal.returns-in-Err-Memory-clause-reads
@@ -31,7 +31,7 @@ returns-in-Err-Memory-clause-reads g c = λ ws q.
     let takes = c.in-Err-Memory.ensures in
     let outcome = rw c.in-Err-Memory.field-0-is at takes.outcome in
     let count = outcome.0 in
-    let within : length takes.bytes ≤ MAX_BYTES + 1 = omega arith in
+    let within : length takes.bytes ≤ MOST_BYTES + 1 = omega arith in
     command_reads ws _ c.args.command takes.bytes q takes.taken within takes.calls takes.later
 
 pub returns-in-Ok-clause-deserved : goal.returns-in-Ok-clause-deserved
@@ -46,5 +46,5 @@ pub returns-in-Ok-clause-reads : goal.returns-in-Ok-clause-reads
 returns-in-Ok-clause-reads g c = λ ws q.
     let takes = c.in-Ok.ensures in
     let count = takes.outcome.within in
-    let within : length takes.bytes ≤ MAX_BYTES + 1 = omega arith in
+    let within : length takes.bytes ≤ MOST_BYTES + 1 = omega arith in
     command_reads ws _ c.args.command takes.bytes q takes.taken within takes.calls takes.later
