@@ -16,7 +16,8 @@
 -- HasReducedClasses r w b n f == class zero is there, and its series is one; every other class has a degree of at least 1; and
 --                        each entry of a class is at most b times its degree in absolute value
 -- ReducedClasses r    == a reduced family of a graded web, with all open edges empty, has such classes where each entry of the
---                        class of each compact edge is at most b: it is at most 402 where no coordinate is over 100
+--                        class of each compact edge is at most b: where every compact edge has its rule and no coordinate
+--                        is over 100, 402 is such a b
 use Rattle.std.specs.Prelude.{◌≡◌, ◌≢◌, ◌⊎◌, Contains, ℕ, ◌≤◌, ℤ, pos, ◌*ℤ◌, ◌≤ℤ◌, ◌<ℤ◌, unsigned_abs, List, length}
 use Rattle.std.specs.List.{AllByRecursion}
 use Rattle.tv_spec_plane.specs.Web.{Web, compact, edge_class, degree_of}

@@ -1,4 +1,4 @@
-//! Laws of the full series: each function does nothing, and its contract is a law.
+//! Laws of the full and of the reduced series: each function does nothing, and its contract is a law.
 
 ghost use Rattle.tv_laws_families.specs.Laws.{FullIsOnly};
 ghost use Rattle.tv_laws_families.specs.Laws.{OnlyQuotientThrough, QuotientFromZero, BeginsWithOne, NothingBelow, ReducedIsOnly, ReducedClasses};

@@ -1,4 +1,5 @@
-//! The full series of every class are the sums of those of its assignments, as laws. There is no program code here.
+//! What is true of the full and of the reduced series of a web, as laws: that there is one family of each, and what its classes
+//! and coefficients are. There is no program code here.
 #![tactic(auto)]
 
 pub mod laws;

@@ -1,5 +1,6 @@
 //! The series of one corner: how many sets of boxes stand beside its legs, by their number, over any ring. It knows no web
-//! and no edge. The count is a plain one (`listing`): it lists the cells of a cube, chooses among them and tests each choice.
+//! and no edge. The count is a plain one (`listing`): it decides the cells of a cube one by one, in their order, and leaves a
+//! choice of which no extras can come.
 #![tactic(auto)]
 
 mod corner;
