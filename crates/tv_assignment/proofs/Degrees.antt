@@ -3,8 +3,8 @@ use Rattle.std.proofs.Common.{◌≡◌, ℕ, zero, suc, ◌+◌, ◌<◌, List,
 use Rattle.std.proofs.lemmas.List.{take_more, length-map}
 use Rattle.tv_lemmas.specs.Naturals.{as_natural}
 use Rattle.tv_spec_plane.specs.declared.records.CompactEdge.{CompactEdge}
-use Rattle.tv_spec_plane.specs.Web.{Web, compact, edge_degree}
-use Rattle.tv_degrees.specs.Edges.{no_edge, edge_at}
+use Rattle.tv_spec_plane.specs.Web.{Web, compact, edge_degree, no_edge}
+use Rattle.tv_degrees.specs.Edges.{edge_at}
 use Rattle.tv_assignment.specs.Listing.{degrees_of}
 
 at-map : (f : CompactEdge → ℕ) (es : List CompactEdge) (k : ℕ) → k < length es → get_or (map f es) k 0 ≡ f (get_or es k no_edge)

@@ -10,7 +10,7 @@ use Rattle.std.specs.Prelude.{ℤ, pos, ◌+ℤ◌, unsigned_abs}
 use Rattle.std.proofs.lemmas.Int.{ints}
 use Rattle.tv_spec_plane.specs.declared.records.CompactEdge.{CompactEdge}
 use Rattle.tv_partition.specs.Rows.{size}
-use Rattle.tv_degrees.specs.Edges.{no_edge}
+use Rattle.tv_spec_plane.specs.Web.{no_edge}
 use Rattle.tv_spec_boxes.specs.Assignments.{Rows, Assignment, sum_on}
 use Rattle.tv_assignment.specs.Terms.{cells_of}
 

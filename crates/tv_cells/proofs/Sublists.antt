@@ -1,4 +1,5 @@
--- The sublists of n members are those of that length among all sublists, and each keeps what all of the cells keep.
+-- The sublists of n members have n members and are those of that length among all sublists, and each keeps what all of the
+-- cells keep.
 use Rattle.std.proofs.Common.{◌≡◌, ℕ, suc, zero, Bool, true, false, ◌&&◌, List, [], ◌∷◌, map, length, nat_eq, arith, refl, ◌∙◌, ap}
 use Rattle.std.specs.Prelude.{filter, cond}
 use Rattle.std.specs.List.{AllByRecursion}
@@ -11,6 +12,15 @@ use Rattle.tv_cells.specs.declared.legs.Legs.{Legs}
 use Rattle.tv_cells.specs.Cells.{sublists, sublists_of}
 use Rattle.tv_cells.specs.Extras.{is_extras}
 use Rattle.tv_cells.proofs.Rising.{Before}
+
+pub sublists_of-length : (n : ℕ) (cells : List Cell) → AllByRecursion (λ s. length s ≡ n) (sublists_of n cells)
+unfolding sublists_of
+sublists_of-length zero cells = (refl, tt)
+sublists_of-length (suc n) [] = tt
+sublists_of-length (suc n) (c ∷ cells) =
+    all-append (λ s. length s ≡ suc n) (map (λ s. c ∷ s) (sublists_of n cells)) (sublists_of (suc n) cells)
+    (all-map (λ (s : List Cell). length s ≡ n) (λ (s : List Cell). length s ≡ suc n) (λ s. c ∷ s) (λ s e. ap suc e) (sublists_of n cells) (sublists_of-length n cells))
+    (sublists_of-length (suc n) cells)
 
 filter_and_head : (p q : List Cell → Bool) (x : List Cell) (both passed : List (List Cell)) (b c : Bool) → p x ≡ b → both ≡ filter p passed → cond (b && c) (x ∷ both) both ≡ filter p (cond c (x ∷ passed) passed)
 filter_and_head p q x both passed true true e rest = rw e (ap (λ zs. x ∷ zs) rest)

@@ -2,11 +2,8 @@
 use Rattle.std.specs.Prelude.{◌≡◌, pos, negsuc, [], ◌∷◌, map, length, refl, true}
 use Rattle.tv_cells.specs.declared.legs.Legs.{Legs}
 use Rattle.tv_cells.specs.Cells.{cell, cube, rises, sublists_of}
-use Rattle.tv_cells.specs.Extras.{count}
+use Rattle.tv_cells.specs.Extras.{empty_legs, count}
 use Rattle.tv_cells.specs.Costs.{edge_cost, row_cost, rows_cost, overlap_cost, overlaps}
-
-abbrev no_legs : Legs
-no_legs = record { along_x = []; along_y = []; along_z = [] }
 
 abbrev one_leg : Legs
 one_leg = record { along_x = []; along_y = []; along_z = 1 ∷ [] }
@@ -28,7 +25,7 @@ unfolding cube
 cube_length = refl
 
 -- plane partitions of 0 to 3
-counts_without_legs : map (count no_legs) (0 ∷ 1 ∷ 2 ∷ 3 ∷ []) ≡ 1 ∷ 1 ∷ 3 ∷ 6 ∷ []
+counts_without_legs : map (count empty_legs) (0 ∷ 1 ∷ 2 ∷ 3 ∷ []) ≡ 1 ∷ 1 ∷ 3 ∷ 6 ∷ []
 unfolding count cube sublists_of
 counts_without_legs = refl
 

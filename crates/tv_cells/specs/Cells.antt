@@ -5,7 +5,6 @@
 -- precedes c d    == c comes before d: the lesser y - x first, then the lesser x, then the lesser z
 -- rises cells     == each cell precedes the next one
 -- range_with_len k n == k, k + 1, .., n numbers
--- below n         == 0, 1, .., n - 1
 -- x_from t, y_from t == where the diagonal with x - y = t begins
 -- column t d h    == the cells at place d of that diagonal, of heights 0 to h - 1
 -- diagonal t n h  == the cells with x - y = t at the first n places of their diagonal, of heights 0 to h - 1
@@ -14,7 +13,9 @@
 -- sublists_of n cells == the sublists of n members, those with an earlier cell first
 -- sublists cells  == all sublists, each cell in or out
 use Rattle.std.specs.Prelude.{ℕ, zero, suc, ◌+◌, ◌-◌, ℤ, pos, negsuc, ◌-ℤ◌, nat_abs, Bool, true, ◌&&◌, ◌||◌, List, [], ◌∷◌, ◌++◌, map, nat_eq, nat_lt}
-use Rattle.std.specs.List.{flat_map, range_with_len}
+use Rattle.std.specs.List.{flat_map}
+use Rattle.tv_lemmas.specs.Naturals.{as_natural}
+pub use Rattle.tv_lemmas.specs.Naturals.{below}
 use Rattle.tv_cells.specs.declared.cell.Cell.{Cell}
 
 abbrev pub cell : ℕ → ℕ → ℕ → Cell
@@ -31,13 +32,9 @@ rises [] = true
 rises (c ∷ []) = true
 rises (c ∷ d ∷ cells) = precedes c d && rises (d ∷ cells)
 
-abbrev pub below : ℕ → List ℕ
-below n = range_with_len 0 n
-
 -- where the diagonal of that x - y begins
 abbrev pub x_from : ℤ → ℕ
-x_from (pos n) = n
-x_from (negsuc n) = 0
+x_from t = as_natural t
 
 abbrev pub y_from : ℤ → ℕ
 y_from (pos n) = 0

@@ -5,12 +5,13 @@
 -- in_union legs cells c == the cell is in a leg or among the cells
 -- stands legs cells c   == the cell is in no leg, and in each direction the cell one step lower, if there is one, is in the union
 -- is_extras legs cells  == each of the cells stands
+-- empty_legs            == no leg has a cell
 -- AreDiagrams legs      == each of the three is a diagram
 -- IsDownClosed          == a set of cells that has with a cell the cells one step lower
 -- IsExtras legs cells   == no cell is in a leg, and the union with the legs is closed downwards
 -- extent legs           == the least number below which both entries of every cell of every diagram are
 -- count legs i          == the number of sets of i extras
-use Rattle.std.specs.Prelude.{◌≡◌, ℕ, suc, ◌+◌, ◌-◌, max, Bool, cond, ◌&&◌, ◌||◌, List, filter, length, nat_eq, nat_lt, IsTrue}
+use Rattle.std.specs.Prelude.{◌≡◌, ℕ, suc, ◌+◌, ◌-◌, max, Bool, cond, ◌&&◌, ◌||◌, List, [], filter, length, nat_eq, nat_lt, IsTrue}
 use Rattle.std.specs.List.{list_any, list_all}
 use Rattle.tv_partition.specs.Rows.{has, reach, IsDiagram}
 use Rattle.tv_cells.specs.declared.cell.Cell.{Cell}
@@ -31,6 +32,9 @@ stands legs cells c = nat_eq (legs_at legs c) 0 && ((nat_eq c.x 0 || in_union le
 
 abbrev pub is_extras : Legs → List Cell → Bool
 is_extras legs cells = list_all (stands legs cells) cells
+
+abbrev pub empty_legs : Legs
+empty_legs = record { along_x = []; along_y = []; along_z = [] }
 
 pub record AreDiagrams (legs : Legs) : Type 0 where
   pub along_x : IsDiagram legs.along_x

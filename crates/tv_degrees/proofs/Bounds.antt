@@ -6,15 +6,15 @@ use Rattle.std.proofs.Common.{refl, inl, inr, arith, lit≤, ◌*◌}
 use Rattle.std.proofs.lemmas.Int.{ints, unsigned_abs-mul}
 use Rattle.std.proofs.Math.Nat.{mul-le-mul}
 use Rattle.tv_spec_plane.specs.declared.records.CompactEdge.{CompactEdge}
-use Rattle.tv_spec_plane.specs.Plane.{Point, at, turn}
-use Rattle.tv_spec_plane.specs.Web.{Web, compact, edge_ratio, normal_a, normal_b, class_entry, edge_class}
+use Rattle.tv_spec_plane.specs.Plane.{Point, origin, at, turn}
+use Rattle.tv_spec_plane.specs.Web.{Web, compact, edge_ratio, normal_a, normal_b, class_entry, edge_class, no_edge}
 use Rattle.tv_lemmas.proofs.Integers.{mul-sub, sub-mul}
 use Rattle.tv_lemmas.proofs.Signs.{sign}
 use Rattle.tv_lattice.specs.Limits.{IsCoordinate, HasCoordinates}
 use Rattle.tv_lemmas.proofs.Members.{all-at}
 use Rattle.tv_laws_edges.specs.Rule.{HasSides, ratio, HasRule, HasEdgeRule}
 use Rattle.tv_laws_edges.proofs.Rules.{ratio-rule}
-use Rattle.tv_degrees.specs.Edges.{no_edge, edge_at, IsNormalDegree}
+use Rattle.tv_degrees.specs.Edges.{edge_at, IsNormalDegree}
 
 -- a product with a factor that isn't 0
 factor-le : (r u : ℤ) (n : ℕ) → u ≢ pos 0 → unsigned_abs (r *ℤ u) ≤ n → unsigned_abs r ≤ n
@@ -64,12 +64,9 @@ ratio-le a b c d first third fourth sides =
     ]
 
 -- of an edge of a web
-no_point : Point
-no_point = record { x = pos 0; y = pos 0 }
-
 edge_ratio-le : (w : Web) (e : CompactEdge) → AllByRecursion HasCoordinates w.points → HasRule w e → unsigned_abs (edge_ratio w e) ≤ 400
-unfolding edge_ratio no_point
-edge_ratio-le w e small rule = ratio-le (at w.points e.a) (at w.points e.b) (at w.points e.c) (at w.points e.d) (all-at HasCoordinates w.points no_point small e.a rule.a) (all-at HasCoordinates w.points no_point small e.c rule.c) (all-at HasCoordinates w.points no_point small e.d rule.d) rule.sides
+unfolding edge_ratio
+edge_ratio-le w e small rule = ratio-le (at w.points e.a) (at w.points e.b) (at w.points e.c) (at w.points e.d) (all-at HasCoordinates w.points origin small e.a rule.a) (all-at HasCoordinates w.points origin small e.c rule.c) (all-at HasCoordinates w.points origin small e.d rule.d) rule.sides
 
 pub normal_a-small : (w : Web) (e : CompactEdge) → AllByRecursion HasCoordinates w.points → HasRule w e → IsNormalDegree (normal_a w e)
 normal_a-small w e small rule = omega (arith, ints, edge_ratio-le w e small rule)

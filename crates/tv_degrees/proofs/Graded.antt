@@ -5,11 +5,11 @@ use Rattle.std.proofs.Common.{sym, ap, subst, ◌∙◌, get_or}
 use Rattle.std.proofs.lemmas.List.{take_more, take_all, map-append, get_or-map}
 use Rattle.tv_lemmas.proofs.Members.{all-at}
 use Rattle.tv_spec_plane.specs.declared.records.CompactEdge.{CompactEdge}
-use Rattle.tv_spec_plane.specs.Web.{Web, compact, edge_class, edge_degree}
+use Rattle.tv_spec_plane.specs.Web.{Web, compact, edge_class, edge_degree, no_edge}
 use Rattle.tv_lattice.proofs.Each.{each_take_more}
 use Rattle.tv_degrees.specs.declared.fault.DegreeFault.{DegreeFault}
 use Rattle.tv_degrees.specs.declared.fault.DegreeFault.TheVariants.{Degree, Memory}
-use Rattle.tv_degrees.specs.Edges.{no_edge, edge_at}
+use Rattle.tv_degrees.specs.Edges.{edge_at}
 use Rattle.tv_degrees.specs.Grades.{IsLow, IsDegreeFault, AreGrades, IsPushed}
 use Rattle.tv_spec_plane.specs.Graded.{HasDegree}
 

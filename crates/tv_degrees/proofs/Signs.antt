@@ -7,7 +7,7 @@ use Rattle.std.proofs.lemmas.List.{drop_all}
 use Rattle.std.proofs.lemmas.Int.{ints}
 use Rattle.tv_spec_plane.specs.Plane.{Point, at}
 use Rattle.tv_spec_plane.specs.Web.{even_sum, is_even_point, class_sign, parity}
-use Rattle.tv_laws_edges.proofs.Parity.{is_even, eqv, is_even-add}
+use Rattle.tv_laws_edges.proofs.Parity.{is_even, eqv, sign_by, is_even-add}
 
 bit_cases : (n : ℕ) → (n % 2 ≡ 0) ⊎ (n % 2 ≡ 1)
 bit_cases n = grind arith
@@ -18,14 +18,10 @@ same_bits m n = elim (bit_cases m) [
   | inr p ↦ elim (bit_cases n) [ inl q ↦ rw (p, q) refl | inr q ↦ rw (p, q) refl ]
 ]
 
-sign_of : Bool → ℤ
-sign_of b = cond b (pos 1) (negsuc 0)
-
 pub class_sign-by : (ps : List Point) (v : List ℤ) (chi s : ℤ) (b : Bool) → s ≡ even_sum ps v → nat_eq (parity chi) (parity s) ≡ b → cond b (pos 1) (negsuc 0) ≡ class_sign ps v chi
-unfolding sign_of
 class_sign-by ps v chi s b e same =
     let even = is_even-add chi s ∙ (sym (same_bits (unsigned_abs chi) (unsigned_abs s)) ∙ same) in
-    ap sign_of (sym even) ∙ ap (λ (z : ℤ). sign_of (is_even (chi +ℤ z))) e
+    ap sign_by (sym even) ∙ ap (λ (z : ℤ). sign_by (is_even (chi +ℤ z))) e
 
 unfoldable pub even_from : List Point → List ℤ → ℕ → ℤ
 even_from ps v k = even_sum (drop k ps) (drop k v)

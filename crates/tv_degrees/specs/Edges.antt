@@ -1,16 +1,12 @@
 -- Single edges of a web and the entries of their classes.
 --
--- no_edge        == the edge that stands for none
 -- edge_at w e    == compact edge number e
 -- entry_by e m n k == the entry at point k of an edge with the normal degrees m and n
 -- with_heights w hs == the web with these heights
 -- IsNormalDegree z == at most 402 in absolute value, as the normal degrees are where the edge has its rule
 use Rattle.std.specs.Prelude.{ℕ, ◌≤◌, ℤ, pos, List, slice_index_or, cond, ◌||◌, nat_eq, unsigned_abs}
 use Rattle.tv_spec_plane.specs.declared.records.CompactEdge.{CompactEdge}
-use Rattle.tv_spec_plane.specs.Web.{Web, compact}
-
-abbrev pub no_edge : CompactEdge
-no_edge = record { a = 0; b = 0; c = 0; d = 0; corner_c = 0; corner_d = 0 }
+use Rattle.tv_spec_plane.specs.Web.{Web, no_edge, compact}
 
 abbrev pub edge_at : Web → ℕ → CompactEdge
 edge_at w e = slice_index_or (compact w) e no_edge

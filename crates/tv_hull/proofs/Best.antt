@@ -7,7 +7,7 @@ use Rattle.tv_hull.specs.declared.order.Heading.{Heading}
 use Rattle.tv_lattice.specs.Limits.{HasCoordinates}
 use Rattle.tv_spec_plane.specs.Plane.{Point, at}
 use Rattle.tv_hull.specs.Ways.{IsAhead, IsKept, IsBest, IsBestOf}
-use Rattle.tv_laws_tiling.proofs.Rotations.{turn-first, turn-rotate}
+use Rattle.tv_spec_plane.proofs.Turns.{turn-first, turn-rotate}
 use Rattle.tv_hull.proofs.Rises.{toward-same}
 use Rattle.tv_hull.proofs.Compare.{small-at, ahead-toward}
 use Rattle.tv_hull.proofs.HalfPlane.{kept_through, kept-back}

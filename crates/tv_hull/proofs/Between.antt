@@ -7,7 +7,7 @@ use Rattle.tv_hull.specs.declared.order.Heading.TheVariants.{Up, Down}
 use Rattle.tv_spec_plane.specs.Plane.{Point, at, turn, IsBetween}
 use Rattle.tv_lemmas.proofs.Integers.{diff_of, diff-pos, diff-same, diffs, neg-mul}
 use Rattle.tv_lemmas.proofs.Signs.{sign, mul-pos-pos, mul-pos-neg, mul-neg-neg, mul-neg-pos, mul-nonneg-nonneg}
-use Rattle.tv_laws_tiling.proofs.Rotations.{turn-rotate, turn-exchange}
+use Rattle.tv_spec_plane.proofs.Turns.{turn-rotate, turn-exchange}
 use Rattle.tv_hull.proofs.Rises.{rise, toward, toward-back, toward-add, toward-down}
 
 -- k to a times k to b

@@ -1,15 +1,14 @@
 -- Points on the line of two distinct ones: any three of them have the turn 0.
 use Rattle.std.specs.Prelude.{◌≡◌, ◌≢◌, ℕ, ◌<◌, ◌≤◌, pos, ◌+ℤ◌, ◌*ℤ◌, ◌⊎◌, List, length}
 use Rattle.std.specs.List.{AllByRecursion}
-use Rattle.std.proofs.Common.{◌∙◌, arith, inl, inr}
+use Rattle.std.proofs.Common.{arith, inl, inr}
 use Rattle.std.proofs.lemmas.Int.{ints}
 use Rattle.tv_hull.specs.declared.order.Heading.TheVariants.{Up}
 use Rattle.tv_lattice.specs.Limits.{HasCoordinates}
 use Rattle.tv_spec_plane.specs.Plane.{Point, at, turn}
 use Rattle.tv_lemmas.proofs.Signs.{factor-zero}
 use Rattle.tv_laws_tiling.specs.Points.{AreDistinct, IsFlat}
-use Rattle.tv_laws_tiling.proofs.Rotations.{turn-exchange, turn-first}
-use Rattle.tv_laws_tiling.proofs.Turns.{turn-last}
+use Rattle.tv_spec_plane.proofs.Turns.{turn-exchange, turn-first, turn-return}
 use Rattle.tv_hull.proofs.Rises.{toward, by_toward, turn-from}
 use Rattle.tv_hull.proofs.Compare.{small-at, toward-level}
 
@@ -50,7 +49,7 @@ flat-line ps small distinct line = elim (few_or_many (length ps)) [
 ]
 
 turn-outside : (ps : List Point) (k : ℕ) → length ps ≤ 1 → k < length ps → turn (at ps 0) (at ps 1) (at ps k) ≡ pos 0
-turn-outside ps k few h = rw (lone (length ps) k few h) (turn-last (at ps 0) (at ps 1))
+turn-outside ps k few h = rw (lone (length ps) k few h) (turn-return (at ps 0) (at ps 1))
 
 pub line-flat : (ps : List Point) (k : ℕ) → IsFlat ps → k < length ps → turn (at ps 0) (at ps 1) (at ps k) ≡ pos 0
 line-flat ps k flat h = elim (few_or_many (length ps)) [

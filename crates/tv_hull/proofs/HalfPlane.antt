@@ -7,7 +7,7 @@ use Rattle.tv_lattice.specs.Limits.{HasCoordinates}
 use Rattle.tv_spec_plane.specs.Plane.{Point, turn}
 use Rattle.tv_lemmas.proofs.Signs.{sign, mul-pos-pos, mul-neg-neg, mul-nonneg-nonneg, mul-zero}
 use Rattle.tv_hull.specs.Ways.{IsAhead, IsKept}
-use Rattle.tv_laws_tiling.proofs.Rotations.{turn-rotate, turn-exchange}
+use Rattle.tv_spec_plane.proofs.Turns.{turn-rotate, turn-exchange}
 use Rattle.tv_hull.proofs.Rises.{toward, toward-back, toward-add, by_toward}
 use Rattle.tv_hull.proofs.Compare.{ahead-toward, not_ahead-toward}
 

@@ -13,7 +13,7 @@ use Rattle.tv_laws_tiling.specs.Hull.{IsLeast, IsClimb, IsDescent, IsRound, IsHu
 use Rattle.tv_lemmas.proofs.Signs.{sign}
 use Rattle.tv_laws_tiling.specs.Points.{AreDistinct}
 use Rattle.tv_hull.specs.Ways.{IsEnd, IsStart, IsWay, IsRun}
-use Rattle.tv_laws_tiling.proofs.Rotations.{turn-exchange}
+use Rattle.tv_spec_plane.proofs.Turns.{turn-exchange}
 use Rattle.tv_hull.proofs.Rises.{toward, toward-back, toward-add, toward-same, toward-opposite}
 use Rattle.tv_hull.proofs.Compare.{small-at, ahead-toward, not_ahead-toward, toward-level}
 use Rattle.tv_hull.proofs.HalfPlane.{overlap}

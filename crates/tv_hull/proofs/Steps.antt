@@ -9,7 +9,7 @@ use Rattle.tv_lattice.specs.Limits.{HasCoordinates}
 use Rattle.tv_spec_plane.specs.Plane.{Point, at, turn, Segment, IsHullSegment, IsBetween}
 use Rattle.tv_laws_tiling.specs.Members.{Among}
 use Rattle.tv_hull.specs.Ways.{IsAhead, IsKept, IsBest, IsStart, IsWay}
-use Rattle.tv_laws_tiling.proofs.Rotations.{turn-first, turn-rotate}
+use Rattle.tv_spec_plane.proofs.Turns.{turn-first, turn-rotate}
 use Rattle.tv_hull.proofs.Rises.{rise, toward, toward-back, toward-same}
 use Rattle.tv_hull.proofs.Compare.{small-at, ahead-toward, not_ahead-toward, ahead_or_not, toward-level}
 use Rattle.tv_hull.proofs.HalfPlane.{kept-turn, behind}

@@ -8,7 +8,8 @@ use Rattle.std.specs.List.{AllByRecursion}
 use Rattle.std.proofs.lemmas.List.{drop_all}
 use Rattle.std.proofs.lemmas.Int.{ints, unsigned_abs-mul, fits_signed_from_abs}
 use Rattle.tv_spec_plane.specs.Web.{degree_of}
-use Rattle.tv_lattice.specs.Classes.{IsEntry, IsEntries, entry_sums}
+use Rattle.tv_lemmas.specs.Sums.{plus}
+use Rattle.tv_lattice.specs.Classes.{IsEntry, IsEntries}
 
 unfoldable pub degree_from : List ℤ → List ℤ → ℕ → ℤ
 degree_from hs v k = degree_of (drop k hs) (drop k v)
@@ -28,9 +29,9 @@ unfolding degree_from
 degree_from-end hs v k h = ap (λ us. degree_of us (drop k v)) (drop_all k hs h)
 
 unfoldable pub sums_from : List ℤ → List ℤ → ℕ → List ℤ
-sums_from u v k = entry_sums (drop k u) (drop k v)
+sums_from u v k = plus (drop k u) (drop k v)
 
-pub sums_from-first : (u v : List ℤ) → [] ++ sums_from u v 0 ≡ entry_sums u v
+pub sums_from-first : (u v : List ℤ) → [] ++ sums_from u v 0 ≡ plus u v
 unfolding sums_from
 sums_from-first u v = refl
 
@@ -38,24 +39,24 @@ pub sums_from-next : (u v : List ℤ) (k : ℕ) (done more whole : List ℤ) →
 unfolding sums_from
 sums_from-next u v k done more whole h l e was =
     let front = rw (drop-cons u k (pos 0) h, drop-cons v k (pos 0) l) at was in
-    rw (add-one, e) (append_assoc done ((get_or u k (pos 0) +ℤ get_or v k (pos 0)) ∷ []) (entry_sums (drop (suc k) u) (drop (suc k) v)) ∙ front)
+    rw (add-one, e) (append_assoc done ((get_or u k (pos 0) +ℤ get_or v k (pos 0)) ∷ []) (plus (drop (suc k) u) (drop (suc k) v)) ∙ front)
 
 pub sums_from-end : (u v : List ℤ) (k : ℕ) (done whole : List ℤ) → length u ≤ k → length v ≤ k → done ++ sums_from u v k ≡ whole → done ≡ whole
 unfolding sums_from
 sums_from-end u v k done whole h l was =
-    let none : entry_sums (drop k u) (drop k v) ≡ [] = rw (drop_all k u h, drop_all k v l) refl in
+    let none : plus (drop k u) (drop k v) ≡ [] = rw (drop_all k u h, drop_all k v l) refl in
     sym (append-nil done) ∙ (sym (ap (λ s. done ++ s) none) ∙ was)
 
 pub product-limit : (h e : ℤ) → unsigned_abs h ≤ 1000000 → unsigned_abs e ≤ 100000000000 → unsigned_abs (h *ℤ e) ≤ 100000000000000000
 product-limit h e small near = rw (unsigned_abs-mul h e) (mul-le-mul small near)
 
-length-entry_sums : (u v : List ℤ) → length u ≡ length v → length (entry_sums u v) ≡ length u
-length-entry_sums [] v e = sym e
-length-entry_sums (x ∷ u) [] e = refl
-length-entry_sums (x ∷ u) (y ∷ v) e = ap suc (length-entry_sums u v (omega arith))
+length-plus : (u v : List ℤ) → length u ≡ length v → length (plus u v) ≡ length u
+length-plus [] v e = sym e
+length-plus (x ∷ u) [] e = refl
+length-plus (x ∷ u) (y ∷ v) e = ap suc (length-plus u v (omega arith))
 
-pub sums-entries : (u v : List ℤ) → length u ≡ length v → length u ≤ 64 → AllByRecursion IsEntry (entry_sums u v) → IsEntries (entry_sums u v)
-sums-entries u v e few all = record { few = omega (arith, length-entry_sums u v e); small = all }
+pub sums-entries : (u v : List ℤ) → length u ≡ length v → length u ≤ 64 → AllByRecursion IsEntry (plus u v) → IsEntries (plus u v)
+sums-entries u v e few all = record { few = omega (arith, length-plus u v e); small = all }
 
 -- what is small fits a word
 pub small-fits : (z : ℤ) → unsigned_abs z ≤ 6400000000000000000 → FitsSigned w64 z

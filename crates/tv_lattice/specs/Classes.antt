@@ -2,8 +2,7 @@
 --
 -- IsEntry z      == within the limit of entries in absolute value
 -- IsEntries v    == as many entries as a file may list points, or fewer, each within its limit
--- entry_sums u v == the sums entry by entry
-use Rattle.std.specs.Prelude.{◌≤◌, ℤ, ◌+ℤ◌, List, [], ◌∷◌, length, unsigned_abs}
+use Rattle.std.specs.Prelude.{◌≤◌, ℤ, List, length, unsigned_abs}
 use Rattle.std.specs.List.{AllByRecursion}
 use Rattle.tv_spec_plane.specs.declared.limits.TheConstants.{MOST_POINTS, GREATEST_ENTRY}
 
@@ -13,8 +12,3 @@ IsEntry z = unsigned_abs z ≤ GREATEST_ENTRY
 pub record IsEntries (v : List ℤ) : Type 0 where
   pub few : length v ≤ MOST_POINTS
   pub small : AllByRecursion IsEntry v
-
-abbrev pub entry_sums : List ℤ → List ℤ → List ℤ
-entry_sums [] v = v
-entry_sums (x ∷ u) [] = x ∷ u
-entry_sums (x ∷ u) (y ∷ v) = (x +ℤ y) ∷ entry_sums u v

@@ -4,7 +4,8 @@ ghost use Rattle.std.specs.Prelude.{◌≡◌, ◌≤◌, ◌+◌, ◌*◌, ◌<
 ghost use Rattle.std.specs.List.{AllByRecursion};
 ghost use Rattle.tv_spec_plane.specs.Web.{degree_of};
 ghost use Rattle.tv_lattice.specs.Limits.{IsHeight};
-ghost use Rattle.tv_lattice.specs.Classes.{IsEntry, IsEntries, entry_sums};
+ghost use Rattle.tv_lattice.specs.Classes.{IsEntry, IsEntries};
+ghost use Rattle.tv_lemmas.specs.Sums.{plus};
 
 use std::alloc::{AllocError, Global};
 use std::marker::Model;
@@ -47,8 +48,8 @@ impl Class {
     /// The sum entry by entry: the class of two curves together. It errs only for want of memory.
     pub fn plus(&self, other: &Class) -> Result<Class, AllocError>
         requires same_length { length self.now ≡ length other.now }
-        requires small { AllByRecursion IsEntry (entry_sums self.now other.now) }
-        ensures { IfOk result (λ class. class ≡ entry_sums self.now other.now) }
+        requires small { AllByRecursion IsEntry (plus self.now other.now) }
+        ensures { IfOk result (λ class. class ≡ plus self.now other.now) }
     {
         let sums = sums_of(*self.entries.allocator(), &self.entries, &other.entries)?;
         Ok(Class { entries: sums })
@@ -68,7 +69,7 @@ fn sums_of(alloc: Global, first: &[i64], second: &[i64]) -> Result<Vec<i64>, All
     requires same_length { length first.now ≡ length second.now }
     requires first_limits { IsEntries first.now }
     requires second_limits { IsEntries second.now }
-    ensures { IfOk result (λ sums. sums.items ≡ entry_sums first.now second.now) }
+    ensures { IfOk result (λ sums. sums.items ≡ plus first.now second.now) }
 {
     let mut sums = Vec::new(alloc);
     for k in 0..first.len() {

@@ -1,7 +1,6 @@
 -- The list of assignments has exactly those that the relation says, each once.
-use Rattle.std.specs.Prelude.{◌≡◌, Contains, ℕ, suc, ◌+◌, ◌-◌, ◌*◌, ◌≤◌, ◌<◌, Bool, true, nat_eq, nat_le, pos, ◌*ℤ◌, List, [], ◌∷◌, map, filter}
+use Rattle.std.specs.Prelude.{◌≡◌, Contains, ℕ, suc, ◌+◌, ◌-◌, ◌*◌, ◌≤◌, ◌<◌, true, nat_eq, nat_le, pos, ◌*ℤ◌, List, [], ◌∷◌, map, filter}
 use Rattle.std.specs.List.{flat_map, AllByRecursion, IsDistinct}
-use Rattle.std.specs.Cmp.Lexicographic.{pointwise}
 use Rattle.std.proofs.Common.{refl, sym, ap, ◌∙◌, arith}
 use Rattle.std.proofs.lemmas.Int.{ints}
 use Rattle.std.proofs.lemmas.Bool.Decides.{nat_tests}
@@ -16,7 +15,7 @@ use Rattle.tv_spec_plane.specs.Graded.{HasDegree, IsGraded}
 use Rattle.tv_partition.specs.Rows.{size, diagrams}
 use Rattle.tv_partition.proofs.Members.{diagrams-are-all, same_lists}
 use Rattle.tv_partition.proofs.Descending.{diagrams-once}
-use Rattle.tv_spec_boxes.specs.Assignments.{Rows, Assignment, sum_on, choices, assignments}
+use Rattle.tv_spec_boxes.specs.Assignments.{Assignment, sum_on, choices, assignments, same_rows, same_choice}
 use Rattle.tv_spec_boxes.specs.Relations.{spent_by, IsAssignment}
 use Rattle.tv_laws_counts.specs.Members.{AssignmentsAreAll, AssignmentsOnce}
 use Rattle.tv_laws_counts.proofs.Choices.{degree_by, IsChoice, HasSize, own, diagrams_are, choices_are, times-more}
@@ -44,13 +43,7 @@ choice_listed (g ∷ gs) positive d (rows ∷ a) is =
 
 -- ---- and once
 
-abbrev same_rows : Rows → Rows → Bool
-same_rows = pointwise nat_eq
-
-abbrev same_all : Assignment → Assignment → Bool
-same_all = pointwise same_rows
-
-pub choices-once : (gs : List ℕ) (d : ℕ) → IsDistinct same_all (choices gs d)
+pub choices-once : (gs : List ℕ) (d : ℕ) → IsDistinct same_choice (choices gs d)
 unfolding choices IsDistinct
 choices-once [] d = (tt, tt)
 choices-once (g ∷ gs) d =

@@ -18,7 +18,7 @@ use Rattle.tv_lemmas.proofs.Members.{all-onto, all-contains}
 int_min-left : (x y : ℤ) → int_min x y ≤ℤ x
 int_min-left x y = grind (arith, ints)
 
-int_min-right : (x y : ℤ) → int_min x y ≤ℤ y
+pub int_min-right : (x y : ℤ) → int_min x y ≤ℤ y
 int_min-right x y = grind (arith, ints)
 
 pub least-none : {A : Type 0} (f : A → ℤ) (xs : List A) → least f xs ≤ℤ pos 0

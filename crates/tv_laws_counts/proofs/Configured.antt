@@ -1,6 +1,6 @@
 -- The list of configurations has exactly those that the relation says, each once.
 use Rattle.std.specs.Prelude.{◌≡◌, Contains, ℕ, suc, ◌+◌, ◌-◌, ◌≤◌, Bool, true, false, cond, ◌&&◌, nat_eq, nat_lt, ℤ, pos, negsuc, ◌+ℤ◌, ◌-ℤ◌, List, [], ◌∷◌, map, length}
-use Rattle.std.specs.List.{flat_map, AllByRecursion, IsDistinct, list_any}
+use Rattle.std.specs.List.{AllByRecursion, IsDistinct, list_any}
 use Rattle.std.specs.Cmp.Lexicographic.{pointwise}
 use Rattle.std.proofs.Common.{refl, sym, ap, ◌∙◌, arith}
 use Rattle.std.proofs.lemmas.Int.{ints}
@@ -23,7 +23,7 @@ use Rattle.tv_cells.proofs.Downward.{test_is_relation}
 use Rattle.tv_spec_boxes.specs.Assignments.{Rows, Assignment, all_legs, class_of, edge_costs, overlaps_of, choices, assignments, assignments_of, same_vector}
 use Rattle.tv_spec_boxes.specs.Configurations.{Configuration, configuration, extras_of, fillings, fillings_of, boxes_left, boxes_of, configurations_on, configurations}
 use Rattle.tv_spec_boxes.specs.Relations.{AreExtras, AreAtCorners, IsConfiguration}
-use Rattle.tv_spec_boxes.proofs.Sublists.{sublists_of-length}
+use Rattle.tv_cells.proofs.Sublists.{sublists_of-length}
 use Rattle.tv_spec_boxes.proofs.Vectors.{same_vector-same}
 use Rattle.tv_spec_boxes.proofs.Members.{IsOf, configurations_are}
 use Rattle.tv_laws_counts.specs.Cubes.{IsWithin}
@@ -31,7 +31,7 @@ use Rattle.tv_laws_counts.specs.Members.{same_configuration, ConfigurationsAreAl
 use Rattle.tv_laws_counts.proofs.Choices.{degree_by, IsChoice, choices_are}
 use Rattle.tv_laws_counts.proofs.Degrees.{weights, weights_positive, class_of-degree}
 use Rattle.tv_laws_counts.proofs.Assigned.{choice_listed, assignments_once}
-use Rattle.tv_laws_counts.proofs.Fillings.{legs_are}
+use Rattle.tv_laws_counts.proofs.Fillings.{with_first, legs_are}
 use Rattle.tv_laws_counts.proofs.Reaching.{extras_within}
 use Rattle.tv_laws_counts.proofs.Rises.{same_cell}
 use Rattle.tv_laws_counts.proofs.SetsOnce.{sublists-rise, sublist_listed, sublists-once}
@@ -62,9 +62,6 @@ extras-once legs side i = distinct-filter (pointwise same) (is_extras legs) (sub
 
 -- ---- fillings
 
-abbrev part : Legs → List Legs → ℕ → ℕ → ℕ → List (List (List Cell))
-part legs rest side n i = flat_map (λ cells. map (λ others. cells ∷ others) (fillings rest side (n - i))) (extras_of legs side i)
-
 no_corner : (b : Bool) → AllByRecursion (AreAtCorners []) (cond b ([] ∷ []) [])
 no_corner true = (tt, tt)
 no_corner false = tt
@@ -73,7 +70,7 @@ fillings-are : (legs : List Legs) → AllByRecursion AreDiagrams legs → (side 
 unfolding fillings
 fillings-are [] all side n = no_corner (nat_eq n 0)
 fillings-are (l ∷ legs) all side n =
-    all-flat_map (λ (i : ℕ). Unit {0}) (AreAtCorners (l ∷ legs)) (part l legs side n)
+    all-flat_map (λ (i : ℕ). Unit {0}) (AreAtCorners (l ∷ legs)) (with_first l legs side n)
     (λ i none. all-flat_map (AreExtras l) (AreAtCorners (l ∷ legs)) (λ cells. map (λ others. cells ∷ others) (fillings legs side (n - i)))
     (λ cells are. all-map (AreAtCorners legs) (AreAtCorners (l ∷ legs)) (λ others. cells ∷ others) (λ others rest. (are, rest)) (fillings legs side (n - i)) (fillings-are legs all.1 side (n - i)))
     (extras_of l side i) (extras-are l side i all.0))
@@ -85,7 +82,7 @@ filling_listed [] all [] are side n e h = let none : nat_eq n 0 ≡ true = grind
 filling_listed [] all (cells ∷ sets) are side n e h = absurd are
 filling_listed (l ∷ legs) all [] are side n e h = absurd are
 filling_listed (l ∷ legs) all (cells ∷ sets) are side n e h =
-    contains-flat_map (part l legs side n) (length cells) (cells ∷ sets) (below (suc n)) (contains-range 0 (suc n) (length cells) (omega arith) (omega arith))
+    contains-flat_map (with_first l legs side n) (length cells) (cells ∷ sets) (below (suc n)) (contains-range 0 (suc n) (length cells) (omega arith) (omega arith))
     (contains-flat_map (λ first. map (λ others. first ∷ others) (fillings legs side (n - length cells))) cells (cells ∷ sets) (extras_of l side (length cells)) (extras-listed l side cells all.0 are.0 (omega arith))
     (contains-map (λ others. cells ∷ others) sets (fillings legs side (n - length cells)) (filling_listed legs all.1 sets are.1 side (n - length cells) (omega arith) (omega arith))))
 

@@ -23,7 +23,7 @@ use Rattle.tv_lemmas.proofs.Members.{all-map, all-any, all-everywhere}
 use Rattle.tv_laws_counts.proofs.Lists.{length-numbered}
 
 -- the fillings with i boxes at the first corner
-abbrev with_first : Legs → List Legs → ℕ → ℕ → ℕ → List (List (List Cell))
+abbrev pub with_first : Legs → List Legs → ℕ → ℕ → ℕ → List (List (List Cell))
 with_first legs rest side n i = flat_map (λ cells. map (λ others. cells ∷ others) (fillings rest side (n - i))) (extras_of legs side i)
 
 with_first-counted : (legs : Legs) (rest : List Legs) (side n i : ℕ) → AreDiagrams legs → i ≤ side → length (fillings rest side (n - i)) ≡ corner_ways rest (n - i) → length (with_first legs rest side n i) ≡ split (count legs) (corner_ways rest) n i

@@ -1,12 +1,13 @@
 -- Extras reach no further out than their number: beyond the extent each of them has its whole way back to the extent
 -- among them.
-use Rattle.std.proofs.Common.{◌≡◌, ℕ, zero, suc, ◌+◌, ◌-◌, ◌<◌, ◌≤◌, Bool, true, false, ◌||◌, List, [], ◌∷◌, length, slice_index, inl, inr, refl, arith}
+use Rattle.std.proofs.Common.{◌≡◌, ℕ, zero, suc, ◌+◌, ◌-◌, ◌<◌, ◌≤◌, Bool, true, false, ◌||◌, List, length, slice_index, inl, inr, refl, arith}
 use Rattle.std.specs.Prelude.{nat_eq, nat_lt, nat_le}
 use Rattle.std.specs.List.{list_any}
 use Rattle.std.proofs.lemmas.Bool.{cases_eq}
 use Rattle.std.proofs.lemmas.Bool.Decides.{nat_tests}
 use Rattle.tv_partition.specs.Rows.{has, reach, IsDiagram}
 use Rattle.tv_partition.proofs.Bounds.{diagram-falls, falls-row}
+use Rattle.tv_partition.proofs.Shapes.{row-past}
 use Rattle.tv_cells.specs.declared.cell.Cell.{Cell}
 use Rattle.tv_cells.specs.declared.legs.Legs.{Legs}
 use Rattle.tv_cells.specs.Cells.{cell, same}
@@ -15,14 +16,9 @@ use Rattle.tv_cells.proofs.Downward.{extras_stand, step_down}
 use Rattle.tv_laws_counts.specs.Cubes.{ExtrasReach}
 use Rattle.tv_laws_counts.proofs.Lines.{AreDifferent, line_length}
 
-row-end : (rows : List ℕ) (i : ℕ) → length rows ≤ i → slice_index rows i ≡ 0
-row-end [] i h = refl
-row-end (row ∷ rows) zero h = absurd (omega arith)
-row-end (row ∷ rows) (suc i) h = row-end rows i (omega arith)
-
 -- no cell of a diagram has an entry at its reach or beyond
 outside_first : (rows : List ℕ) (i j : ℕ) → reach rows ≤ i → has rows i j ≡ false
-outside_first rows i j h = let e = row-end rows i (omega arith) in rw e (grind (arith, nat_tests))
+outside_first rows i j h = let e = row-past rows i (omega arith) in rw e (grind (arith, nat_tests))
 
 outside_second : (rows : List ℕ) (i j : ℕ) → IsDiagram rows → reach rows ≤ j → has rows i j ≡ false
 outside_second rows i j d h = let l : slice_index rows i ≤ slice_index rows 0 = falls-row (slice_index rows 0) rows (diagram-falls rows d) i in below (slice_index rows i) (omega arith)

@@ -10,15 +10,8 @@ use Rattle.tv_lemmas.proofs.Distinct.{distinct-append, distinct-map}
 use Rattle.tv_cells.specs.declared.cell.Cell.{Cell}
 use Rattle.tv_cells.specs.Cells.{same, precedes, rises, sublists_of}
 use Rattle.tv_cells.proofs.Rising.{Before, before_rising, rises-tail, rises-cons, same_itself, precedes_differs}
+use Rattle.tv_cells.proofs.Sublists.{sublists-before}
 use Rattle.tv_laws_counts.proofs.Rises.{same_cell, behind, not_both}
-
-sublists-before : (c : Cell) (n : ℕ) (cells : List Cell) → Before c cells → AllByRecursion (Before c) (sublists_of n cells)
-unfolding sublists_of
-sublists-before c zero cells b = (tt, tt)
-sublists-before c (suc n) [] b = tt
-sublists-before c (suc n) (d ∷ cells) b =
-    all-append (Before c) (map (λ s. d ∷ s) (sublists_of n cells)) (sublists_of (suc n) cells)
-    (all-map (Before c) (Before c) (λ s. d ∷ s) (λ s h. (b.0, h)) (sublists_of n cells) (sublists-before c n cells b.1)) (sublists-before c (suc n) cells b.1)
 
 pub sublists-rise : (n : ℕ) (cells : List Cell) → rises cells ≡ true → AllByRecursion (λ s. rises s ≡ true) (sublists_of n cells)
 unfolding sublists_of

@@ -6,9 +6,8 @@ use Rattle.tv_spec_plane.specs.Web.{compact, outer, edge_ref, edge_ratio}
 use Rattle.tv_spec_plane.proofs.Examples.{conifold}
 use Rattle.tv_cells.specs.Cells.{cube, sublists_of}
 use Rattle.tv_cells.specs.Costs.{row_cost, rows_cost, overlap_cost, overlaps}
-use Rattle.tv_cells.specs.Extras.{count}
+use Rattle.tv_cells.specs.Extras.{count, empty_legs}
 use Rattle.tv_spec_boxes.specs.Assignments.{no_legs}
-use Rattle.tv_spec_boxes.specs.OneCorner.{empty_legs}
 use Rattle.tv_laws_counts.specs.Ways.{split, spread, ways, corner_ways, assignment_coefficient}
 
 -- two corners without legs: the square of 1 + q + 3 q^2 + 6 q^3

@@ -5,7 +5,8 @@ use Rattle.std.proofs.lemmas.Int.{ints}
 use Rattle.tv_spec_plane.specs.declared.records.CompactEdge.{CompactEdge}
 use Rattle.tv_spec_plane.specs.Plane.{Point, at, turn}
 use Rattle.tv_spec_plane.specs.Web.{Web, degree_of, edge_class, edge_ratio, normal_a, normal_b, even_sum, is_even_point}
-use Rattle.tv_lemmas.proofs.Integers.{diff_of, diff-pos, diff-same, diffs}
+use Rattle.tv_lemmas.proofs.Integers.{diff_of, diff-same, diffs}
+use Rattle.tv_spec_plane.proofs.Turns.{turn-first, turn-return, turn-last, turn-back}
 use Rattle.tv_laws_edges.specs.Rule.{HasSides, IsRule, HasRule}
 use Rattle.tv_laws_edges.specs.Laws.{ClassParity, FlatDegree, affine}
 use Rattle.tv_laws_edges.proofs.Rules.{ratio-rule}
@@ -14,30 +15,6 @@ use Rattle.tv_laws_edges.proofs.Bits.{weight_even, turn_even, rule_even, same-eq
 use Rattle.tv_laws_edges.proofs.Entries.{Apart, Listed, degree_of-edge_class}
 
 -- the four points are apart, since each three that turn have no point twice
-turn-first : (a c : Point) → turn a a c ≡ pos 0
-unfolding turn
-turn-first a c =
-    let r = diff_of a.x in let s = diff_of a.y in let v = diff_of c.x in let w = diff_of c.y in
-    rw (r.2, s.2, v.2, w.2, diff-pos 0) (simp diffs (diff-same _ _ _ _ (omega arith)))
-
-turn-return : (a b : Point) → turn a b a ≡ pos 0
-unfolding turn
-turn-return a b =
-    let r = diff_of a.x in let s = diff_of a.y in let v = diff_of b.x in let w = diff_of b.y in
-    rw (r.2, s.2, v.2, w.2, diff-pos 0) (simp diffs (diff-same _ _ _ _ (omega arith)))
-
-turn-last : (a b : Point) → turn a b b ≡ pos 0
-unfolding turn
-turn-last a b =
-    let r = diff_of a.x in let s = diff_of a.y in let v = diff_of b.x in let w = diff_of b.y in
-    rw (r.2, s.2, v.2, w.2, diff-pos 0) (simp diffs (diff-same _ _ _ _ (omega arith)))
-
-pub turn-other : (a b c : Point) → turn b a c ≡ neg_ℤ (turn a b c)
-unfolding turn
-turn-other a b c =
-    let r = diff_of a.x in let s = diff_of a.y in let t = diff_of b.x in let u = diff_of b.y in let v = diff_of c.x in let w = diff_of c.y in
-    rw (r.2, s.2, t.2, u.2, v.2, w.2) (simp diffs (diff-same _ _ _ _ (omega arith)))
-
 first_turns : (a b c d : Point) → HasSides a b c d → turn a b c ≡ pos 0 → ⊥
 first_turns a b c d (inl ones) e = absurd (omega (arith, ints, ones.0))
 first_turns a b c d (inr minus) e = absurd (omega (arith, ints, minus.0))
@@ -61,7 +38,7 @@ pub same_bc : (ps : List Point) (i j k : ℕ) → j ≡ k → turn (at ps i) (at
 same_bc ps i j k e = ap (λ (m : ℕ). turn (at ps i) (at ps j) (at ps m)) (sym e) ∙ turn-last (at ps i) (at ps j)
 
 same_cd : (ps : List Point) (i j k l : ℕ) → k ≡ l → turn (at ps j) (at ps i) (at ps l) ≡ neg_ℤ (turn (at ps i) (at ps j) (at ps k))
-same_cd ps i j k l e = ap (λ (m : ℕ). turn (at ps j) (at ps i) (at ps m)) (sym e) ∙ turn-other (at ps i) (at ps j) (at ps k)
+same_cd ps i j k l e = ap (λ (m : ℕ). turn (at ps j) (at ps i) (at ps m)) (sym e) ∙ turn-back (at ps i) (at ps j) (at ps k)
 
 pub apart : (w : Web) (e : CompactEdge) → HasRule w e → Apart e.a e.b e.c e.d
 apart w e rule = record {

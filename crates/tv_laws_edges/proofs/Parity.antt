@@ -2,6 +2,7 @@
 --
 -- is_even z == the test of the sign's definition: the remainder by 2 is 0
 -- eqv a b   == both or neither
+-- sign_by even == 1 where even holds, else -1
 use Rattle.std.specs.Prelude.{◌≡◌, ℕ, zero, suc, ◌+◌, ◌%◌, Bool, true, false, cond, ◌||◌, ℤ, pos, negsuc, ◌+ℤ◌, ◌-ℤ◌, ◌*ℤ◌, neg_ℤ, ◌⊎◌, nat_eq, unsigned_abs}
 use Rattle.std.proofs.Common.{refl, sym, ap, ◌∙◌, inl, inr, arith}
 use Rattle.std.proofs.lemmas.Int.{ints}
@@ -15,6 +16,9 @@ abbrev pub eqv : Bool → Bool → Bool
 eqv true b = b
 eqv false true = false
 eqv false false = true
+
+abbrev pub sign_by : Bool → ℤ
+sign_by even = cond even (pos 1) (negsuc 0)
 
 -- a natural, doubled
 twice_even : (n : ℕ) → nat_eq ((n + n) % 2) 0 ≡ true

@@ -16,7 +16,7 @@ use Rattle.tv_cells.specs.Costs.{rows_cost}
 use Rattle.tv_cells.proofs.Overlaps.{no-overlap}
 use Rattle.tv_spec_boxes.specs.Assignments.{Assignment, no_legs, rows_at, legs_of, all_legs, zeros, plus, times, class_on, class_of, sum_on, cost_by, twist_by, overlaps_of, choices, assignments, same_vector, assignments_of}
 use Rattle.tv_spec_boxes.specs.Configurations.{boxes_left}
-use Rattle.tv_spec_boxes.specs.OneCorner.{empty_legs}
+use Rattle.tv_cells.specs.Extras.{empty_legs}
 use Rattle.std.proofs.lemmas.List.FromFn.{length-map-range_with_len}
 use Rattle.tv_lemmas.proofs.Sums.{total-one}
 use Rattle.tv_laws_counts.specs.Ways.{ways_at, assignment_sign, assignment_coefficient}

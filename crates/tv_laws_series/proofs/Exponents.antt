@@ -1,14 +1,15 @@
 -- How far one exponent is above another.
 use Rattle.std.proofs.Common.{◌≡◌, ◌+◌, ◌-◌, ℤ, pos, negsuc, ◌+ℤ◌, ◌-ℤ◌, ◌≤ℤ◌, arith, ◌∙◌, refl}
 use Rattle.std.proofs.lemmas.Int.{ints}
-use Rattle.tv_laws_series.specs.Terms.{natural, above}
+use Rattle.tv_lemmas.specs.Naturals.{as_natural}
+use Rattle.tv_laws_series.specs.Terms.{above}
 use borrow.Author.Differences.{up, down}
 
-natural_is : (z : ℤ) → natural z ≡ up z - down z
+natural_is : (z : ℤ) → as_natural z ≡ up z - down z
 natural_is (pos n) = omega arith
 natural_is (negsuc n) = omega arith
 
-above_natural : (m n : ℤ) → above m n ≡ natural (n -ℤ m)
+above_natural : (m n : ℤ) → above m n ≡ as_natural (n -ℤ m)
 unfolding above
 above_natural m n = refl
 

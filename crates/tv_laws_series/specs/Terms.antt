@@ -2,7 +2,6 @@
 --
 --   Terms A             == coefficients in A, from a lowest exponent on
 --   terms low xs        == these coefficients, the first at low
---   natural z           == z, and 0 where z is below 0
 --   above m n           == how far the exponent n is above m, and 0 where it is not
 --   upto t              == the exponent of the last coefficient, low - 1 where there is none
 --   IsWithin n          == the absolute value of n is at most 2^60
@@ -13,8 +12,9 @@
 --   listed f n          == the list f 0, f 1, .., f (n - 1)
 --   plus r f g          == the sequence of the sums f k + g k
 --   scaled r c f        == the sequence of the products c * f k
-use Rattle.std.specs.Prelude.{ℕ, zero, suc, ◌+◌, ◌≤◌, ℤ, pos, negsuc, ◌+ℤ◌, ◌-ℤ◌, unsigned_abs, List, length, map}
+use Rattle.std.specs.Prelude.{ℕ, zero, suc, ◌+◌, ◌≤◌, ℤ, pos, ◌+ℤ◌, ◌-ℤ◌, unsigned_abs, List, length, map}
 use Rattle.std.specs.List.{range_with_len}
+use Rattle.tv_lemmas.specs.Naturals.{as_natural}
 use Rattle.tv_ring.specs.Operations.{Operations, reach_limit}
 use Rattle.tv_ring.specs.Sums.{at}
 
@@ -25,12 +25,8 @@ pub record Terms (A : Type 0) : Type 0 where
 abbrev pub terms : {A : Type 0} → ℤ → List A → Terms A
 terms low xs = record { low = low; coefficients = xs }
 
-abbrev pub natural : ℤ → ℕ
-natural (pos n) = n
-natural (negsuc n) = 0
-
 unfoldable pub above : ℤ → ℤ → ℕ
-above m n = natural (n -ℤ m)
+above m n = as_natural (n -ℤ m)
 
 abbrev pub upto : {A : Type 0} → Terms A → ℤ
 upto t = (t.low +ℤ pos (length t.coefficients)) -ℤ pos 1

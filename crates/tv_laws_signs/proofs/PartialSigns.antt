@@ -1,18 +1,13 @@
 -- The sign of a partial configuration.
-use Rattle.std.specs.Prelude.{Bool, cond, ℤ, pos, negsuc}
 use Rattle.std.proofs.Common.{sym, ap, ◌∙◌}
 use Rattle.tv_spec_plane.specs.Web.{even_sum}
 use Rattle.tv_spec_boxes.specs.Assignments.{class_of, edge_twist}
-use Rattle.tv_laws_edges.proofs.Parity.{is_even, eqv, is_even-add}
+use Rattle.tv_laws_edges.proofs.Parity.{is_even, eqv, sign_by, is_even-add}
 use Rattle.tv_laws_signs.proofs.EvenSums.{class_of-even}
 use Rattle.tv_spec_partial.specs.Partial.{partial_chi}
 use Rattle.tv_laws_signs.specs.PartialLaws.{PartialSign}
 
-sign_by : Bool → ℤ
-sign_by b = cond b (pos 1) (negsuc 0)
-
 pub partial_has_sign : PartialSign
-unfolding sign_by
 partial_has_sign w t c rules =
     let left = is_even-add (partial_chi w t c) (edge_twist w c.diagrams) in
     let right = is_even-add (partial_chi w t c) (even_sum w.points (class_of w c.diagrams)) in

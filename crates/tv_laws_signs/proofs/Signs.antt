@@ -1,5 +1,5 @@
 -- The sign of a configuration, of all of a class and Euler characteristic, and of their count.
-use Rattle.std.specs.Prelude.{◌≡◌, Bool, cond, ℤ, pos, negsuc, List}
+use Rattle.std.specs.Prelude.{◌≡◌, ℤ, List}
 use Rattle.std.proofs.Common.{sym, ap, ◌∙◌}
 use Rattle.tv_lemmas.proofs.Members.{all-onto}
 use Rattle.tv_spec_plane.specs.Web.{Web, even_sum, class_sign}
@@ -7,16 +7,12 @@ use Rattle.tv_spec_boxes.specs.Assignments.{Rows, class_of, edge_twist}
 use Rattle.tv_spec_boxes.specs.Configurations.{Configuration, chi_of, configuration_sign, configurations, signed_count}
 use Rattle.tv_lemmas.proofs.Sums.{total-alike}
 use Rattle.tv_laws_edges.specs.Rule.{HasEdgeRule}
-use Rattle.tv_laws_edges.proofs.Parity.{is_even, eqv, is_even-add}
+use Rattle.tv_laws_edges.proofs.Parity.{is_even, eqv, sign_by, is_even-add}
 use Rattle.tv_laws_signs.specs.Laws.{ConfigurationSign, OneSign, CountedSign}
 use Rattle.tv_laws_signs.proofs.EvenSums.{class_of-even}
 use Rattle.tv_spec_boxes.proofs.Members.{IsOf, configurations_are}
 
-sign_by : Bool → ℤ
-sign_by b = cond b (pos 1) (negsuc 0)
-
 pub configuration_has_sign : ConfigurationSign
-unfolding sign_by
 configuration_has_sign w fixed c rules =
     let left = is_even-add (chi_of w fixed c) (edge_twist w c.diagrams) in
     let right = is_even-add (chi_of w fixed c) (even_sum w.points (class_of w c.diagrams)) in

@@ -7,12 +7,12 @@ use Rattle.tv_lemmas.proofs.Lists.{filter-none, flat_map-same}
 use Rattle.tv_lemmas.proofs.Members.{all-any, all-filter}
 use Rattle.tv_spec_plane.specs.declared.records.CompactEdge.{CompactEdge}
 use Rattle.tv_spec_plane.specs.Tiling.{triangle_at}
-use Rattle.tv_spec_plane.specs.Web.{Web, compact, compact_by, compact_edge, owners, pairs, below, opposite, has, corner_of, sign}
-use Rattle.tv_spec_boxes.specs.Assignments.{Assignment, no_legs, legs_of, all_legs, assignments_of, edge_costs, edge_twist, overlaps_of}
+use Rattle.tv_spec_plane.specs.Web.{Web, compact, compact_by, compact_edge, owners, pairs, below, opposite, has, corner_of, sign, no_edge}
+use Rattle.tv_spec_boxes.specs.Assignments.{Assignment, no_legs, legs_of, all_legs, assignments_of, edge_costs, edge_twist, overlaps_of, same_choice}
 use Rattle.tv_spec_boxes.specs.Configurations.{Configuration, configuration, configurations_on, configurations, configuration_sign, fillings_of, boxes_of, signed_count}
 use Rattle.tv_lemmas.specs.Sums.{total}
 use Rattle.tv_lemmas.proofs.Sums.{total-same}
-use Rattle.tv_spec_partial.specs.Partial.{is_pending, no_edge, pending, rests_on, chosen, first_legs, partial_on, partial_configurations, partial_sign, same_choice, partial_count}
+use Rattle.tv_spec_partial.specs.Partial.{is_pending, pending, rests_on, chosen, first_legs, partial_on, partial_configurations, partial_sign, partial_count}
 use Rattle.tv_laws_signs.specs.PartialLaws.{WholeIsPartial}
 
 -- both corners of the edge are among the first n

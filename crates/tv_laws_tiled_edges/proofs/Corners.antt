@@ -8,8 +8,7 @@ use Rattle.tv_spec_plane.specs.Web.{has, opposite}
 use Rattle.tv_laws_tiling.specs.Members.{Among}
 use Rattle.tv_laws_tiling.specs.Edges.{sides, IsListed, IsTurned}
 use Rattle.tv_triangulation.specs.Turned.{turn_of, turned_of, IsUnit}
-use Rattle.tv_laws_tiling.proofs.Rotations.{turn-rotate, turn-exchange, turn-first}
-use Rattle.tv_laws_tiling.proofs.Turns.{turn-second, turn-last}
+use Rattle.tv_spec_plane.proofs.Turns.{turn-rotate, turn-exchange, turn-first, turn-last, turn-return}
 use Rattle.tv_triangulation.proofs.Turning.{turned-one}
 
 abbrev Names : ℕ → ℕ → ℕ → ℕ → ℕ → ℕ → Type 0
@@ -116,10 +115,10 @@ module _ (ps : List Point) (t : Triple) (u : IsUnit ps t) where
   a_not_b e = not_flat (turn_of ps t) u (subst (λ k. turn (at ps t.a) (at ps k) (at ps t.c) ≡ pos 0) e (turn-first (at ps t.a) (at ps t.c)))
 
   pub b_not_c : t.b ≢ t.c
-  b_not_c e = not_flat (turn_of ps t) u (subst (λ k. turn (at ps t.a) (at ps t.b) (at ps k) ≡ pos 0) e (turn-second (at ps t.a) (at ps t.b)))
+  b_not_c e = not_flat (turn_of ps t) u (subst (λ k. turn (at ps t.a) (at ps t.b) (at ps k) ≡ pos 0) e (turn-last (at ps t.a) (at ps t.b)))
 
   pub c_not_a : t.c ≢ t.a
-  c_not_a e = not_flat (turn_of ps t) u (subst (λ k. turn (at ps t.a) (at ps t.b) (at ps k) ≡ pos 0) (sym e) (turn-last (at ps t.a) (at ps t.b)))
+  c_not_a e = not_flat (turn_of ps t) u (subst (λ k. turn (at ps t.a) (at ps t.b) (at ps k) ≡ pos 0) (sym e) (turn-return (at ps t.a) (at ps t.b)))
 
 pub beside_edge : (ps : List Point) (t : Triple) (a b : ℕ) → IsListed ps t → IsUnit ps t → a ≢ b → has t a ≡ true → has t b ≡ true → IsBeside ps (turned_of ps t) a b (opposite t a b)
 beside_edge ps t a b l u apart ha hb = beside ps (turned_of ps t) a b (opposite t a b) (turned-one ps t l u) (stands_turned t a b (opposite t a b) (int_lt (turn_of ps t) (pos 0)) (stands_by t a b (a_not_b ps t u) (b_not_c ps t u) (c_not_a ps t u) apart (has_cases t a ha) (has_cases t b hb)))

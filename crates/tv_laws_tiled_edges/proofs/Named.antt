@@ -9,12 +9,10 @@ use Rattle.std.proofs.lemmas.Bool.Decides.{nat_tests}
 use Rattle.std.proofs.lemmas.List.Sums.{passes_at_first}
 use Rattle.tv_lemmas.proofs.Members.{all-at, all-map, contains-filter}
 use Rattle.tv_spec_plane.specs.declared.records.Triple.{Triple}
-use Rattle.tv_spec_plane.specs.declared.records.CompactEdge.{CompactEdge}
-use Rattle.tv_spec_plane.specs.declared.records.OuterEdge.{OuterEdge}
 use Rattle.tv_spec_plane.specs.declared.records.EdgeRef.TheVariants.{Compact, Outer}
 use Rattle.tv_spec_plane.specs.Plane.{Point, Segment}
 use Rattle.tv_spec_plane.specs.Tiling.{triangle_at}
-use Rattle.tv_spec_plane.specs.Web.{Web, below, pairs, has, opposite, owners, compact, compact_by, compact_edge, outer, outer_by, edge_ref, rising, corner_of}
+use Rattle.tv_spec_plane.specs.Web.{Web, below, pairs, has, opposite, owners, compact, compact_by, compact_edge, outer, outer_by, names_compact, names_outer, edge_ref, rising, corner_of}
 use Rattle.tv_laws_tiling.specs.Members.{Among}
 use Rattle.tv_laws_tiling.specs.Edges.{sides, IsListed}
 use Rattle.tv_lattice.specs.Limits.{HasCoordinates}
@@ -79,19 +77,13 @@ one_side : (ps : List Point) (t : Triple) (a b o : ℕ) → IsBeside ps t a b o 
 one_side ps t a b o h = elim h.place [ inl p ↦ inl p.1 | inr p ↦ inr p.1 ]
 
 -- ---- the tests by which an edge is found
-abbrev is_compact : ℕ → ℕ → CompactEdge → Bool
-is_compact a b e = nat_eq e.a a && nat_eq e.b b
-
-abbrev is_outer : ℕ → ℕ → OuterEdge → Bool
-is_outer a b e = nat_eq e.a a && nat_eq e.b b
-
 same : (a b : ℕ) → (nat_eq a a && nat_eq b b) ≡ true
 same a b = grind (arith, nat_tests)
 
 both : (x y a b : ℕ) → (nat_eq x a && nat_eq y b) ≡ true → (x ≡ a) × (y ≡ b)
 both x y a b e = let parts = and_parts (nat_eq x a) (nat_eq y b) e in (eqb-true x a parts.0, eqb-true y b parts.1)
 
-edge-found : (a b c t d u : ℕ) (x : Bool) → is_compact a b (cond x (record { a = a; b = b; c = c; d = d; corner_c = t; corner_d = u }) (record { a = a; b = b; c = d; d = c; corner_c = u; corner_d = t })) ≡ true
+edge-found : (a b c t d u : ℕ) (x : Bool) → names_compact a b (cond x (record { a = a; b = b; c = c; d = d; corner_c = t; corner_d = u }) (record { a = a; b = b; c = d; d = c; corner_c = u; corner_d = t })) ≡ true
 edge-found a b c t d u true = same a b
 edge-found a b c t d u false = same a b
 
@@ -102,16 +94,16 @@ module _ (w : Web) (coordinates : AllByRecursion HasCoordinates w.points) (tiled
   on_side : (a b t : ℕ) → a ≢ b → t < length w.triangles → owns w a b t ≡ true → Among (a, b) (sides_at t) ⊎ Among (b, a) (sides_at t)
   on_side a b t apart l h = one_side w.points (turned_of w.points (triangle_at w.triangles t)) a b (opposite (triangle_at w.triangles t) a b) (owner_beside w coordinates tiled a b t apart l h)
 
-  open_by : (a b : ℕ) → a < b → b < length w.points → (ts : List ℕ) → owners w a b ≡ ts → (t : ℕ) → Contains ts t → Rising (owns w a b) 0 (length w.triangles) ts → (position_or_len (is_compact a b) (compact w) < length (compact w) → ⊥) → position_or_len (is_outer a b) (outer w) < length (outer w)
+  open_by : (a b : ℕ) → a < b → b < length w.points → (ts : List ℕ) → owners w a b ≡ ts → (t : ℕ) → Contains ts t → Rising (owns w a b) 0 (length w.triangles) ts → (position_or_len (names_compact a b) (compact w) < length (compact w) → ⊥) → position_or_len (names_outer a b) (outer w) < length (outer w)
   unfolding compact outer
   open_by a b l h [] e t (k, none, at) r closed = absurd (omega arith)
   open_by a b l h (u ∷ []) e t among r closed =
-      placed (is_outer a b) (outer w) (record { a = a; b = b; corner = u })
+      placed (names_outer a b) (outer w) (record { a = a; b = b; corner = u })
       (contains-filter_map (λ (p : ℕ × ℕ). outer_by p.0 p.1 (owners w p.0 p.1)) (pairs (length w.points)) (a, b) (record { a = a; b = b; corner = u }) (contains-pairs (length w.points) a b l h) (ap (outer_by a b) e))
       (same a b)
   open_by a b l h (u ∷ v ∷ []) e t among r closed =
       let c = opposite (triangle_at w.triangles u) a b in let d = opposite (triangle_at w.triangles v) a b in
-      absurd (closed (placed (is_compact a b) (compact w) (compact_edge a b c u d v)
+      absurd (closed (placed (names_compact a b) (compact w) (compact_edge a b c u d v)
       (contains-filter_map (λ (p : ℕ × ℕ). compact_by w p.0 p.1 (owners w p.0 p.1)) (pairs (length w.points)) (a, b) (compact_edge a b c u d v) (contains-pairs (length w.points) a b l h) (ap (compact_by w a b) e))
       (edge-found a b c u d v (nat_lt c d))))
   open_by a b l h (u ∷ v ∷ x ∷ ts) e t among r closed =
@@ -119,13 +111,13 @@ module _ (w : Web) (coordinates : AllByRecursion HasCoordinates w.points) (tiled
       (sides_apart w coordinates tiled u v (omega (arith, r.3.0)) r.3.1) (sides_apart w coordinates tiled u x (omega (arith, r.3.0, r.3.3.0)) r.3.3.1) (sides_apart w coordinates tiled v x (omega (arith, r.3.3.0)) r.3.3.1)
       (on_side a b u (λ z. omega arith) r.1 r.2) (on_side a b v (λ z. omega arith) r.3.1 r.3.2) (on_side a b x (λ z. omega arith) r.3.3.1 r.3.3.2))
 
-  named_by : (a b : ℕ) (x : Bool) → nat_lt (position_or_len (is_compact a b) (compact w)) (length (compact w)) ≡ x → ((position_or_len (is_compact a b) (compact w) < length (compact w) → ⊥) → position_or_len (is_outer a b) (outer w) < length (outer w)) → NamesEdge w (cond x (Compact (position_or_len (is_compact a b) (compact w))) (Outer (position_or_len (is_outer a b) (outer w)))) a b
+  named_by : (a b : ℕ) (x : Bool) → nat_lt (position_or_len (names_compact a b) (compact w)) (length (compact w)) ≡ x → ((position_or_len (names_compact a b) (compact w) < length (compact w) → ⊥) → position_or_len (names_outer a b) (outer w) < length (outer w)) → NamesEdge w (cond x (Compact (position_or_len (names_compact a b) (compact w))) (Outer (position_or_len (names_outer a b) (outer w)))) a b
   named_by a b true e open_one =
-      let l = less (position_or_len (is_compact a b) (compact w)) (length (compact w)) e in
-      record { listed = l; of_both = λ d. both _ _ a b (passes_at_first (is_compact a b) (compact w) d l) }
+      let l = less (position_or_len (names_compact a b) (compact w)) (length (compact w)) e in
+      record { listed = l; of_both = λ d. both _ _ a b (passes_at_first (names_compact a b) (compact w) d l) }
   named_by a b false e open_one =
-      let l = open_one (not_less (position_or_len (is_compact a b) (compact w)) (length (compact w)) e) in
-      record { listed = l; of_both = λ d. both _ _ a b (passes_at_first (is_outer a b) (outer w) d l) }
+      let l = open_one (not_less (position_or_len (names_compact a b) (compact w)) (length (compact w)) e) in
+      record { listed = l; of_both = λ d. both _ _ a b (passes_at_first (names_outer a b) (outer w) d l) }
 
   named : (i a b : ℕ) → i < length w.triangles → a < b → b < length w.points → has (triangle_at w.triangles i) a ≡ true → has (triangle_at w.triangles i) b ≡ true → NamesEdge w (edge_ref w a b) a b
   unfolding edge_ref
@@ -133,7 +125,7 @@ module _ (w : Web) (coordinates : AllByRecursion HasCoordinates w.points) (tiled
       let owned : owns w a b i ≡ true = rw (has_a, has_b) refl in
       let among = contains-filter (owns w a b) i (below (length w.triangles)) (contains-below (length w.triangles) i m) owned in
       let r = rising_filter (owns w a b) 0 (length w.triangles) (length w.triangles) (omega arith) in
-      named_by a b (nat_lt (position_or_len (is_compact a b) (compact w)) (length (compact w))) refl (open_by a b l h (owners w a b) refl i among r)
+      named_by a b (nat_lt (position_or_len (names_compact a b) (compact w)) (length (compact w))) refl (open_by a b l h (owners w a b) refl i among r)
 
   corner-named : (i : ℕ) → i < length w.triangles → NamesEdges w (corner_of w (triangle_at w.triangles i))
   corner-named i m =

@@ -7,12 +7,12 @@ use Rattle.tv_spec_plane.specs.declared.records.Triple.{Triple}
 use Rattle.tv_spec_plane.specs.Plane.{Point, at}
 use Rattle.tv_spec_plane.specs.Tiling.{triangle_at}
 use Rattle.tv_spec_plane.specs.Web.{Web, has, opposite, owners, compact, compact_by}
+use Rattle.tv_spec_plane.proofs.Turns.{turn-back}
 use Rattle.tv_laws_tiling.specs.Members.{Among}
 use Rattle.tv_laws_tiling.specs.Edges.{sides, IsListed}
 use Rattle.tv_lattice.specs.Limits.{HasCoordinates}
 use Rattle.tv_triangulation.specs.Turned.{turned_of, turned, IsUnit}
 use Rattle.tv_lemmas.proofs.Members.{all-at}
-use Rattle.tv_laws_tiling.proofs.Turns.{turn-back}
 use Rattle.tv_triangulation.proofs.Tilings.{no_triple}
 use Rattle.tv_triangulation.specs.Triangulated.{IsTiled}
 use Rattle.tv_laws_edges.specs.Rule.{HasSides, HasRule}

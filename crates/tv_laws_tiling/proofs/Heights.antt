@@ -5,7 +5,7 @@
 use Rattle.std.specs.Prelude.{◌≡◌, ◌≢◌, ℕ, ◌<◌, ℤ, pos, negsuc, ◌+ℤ◌, ◌-ℤ◌, ◌*ℤ◌, ◌≤ℤ◌, ◌<ℤ◌, List}
 use Rattle.std.proofs.Common.{ap, sym, ◌∙◌, arith, inl, inr}
 use Rattle.std.proofs.lemmas.Int.{ints}
-use Rattle.tv_spec_plane.specs.Plane.{Point, at, turn}
+use Rattle.tv_spec_plane.specs.Plane.{Point, origin, at, turn}
 use Rattle.tv_spec_plane.specs.Tiling.{Rational, side}
 use Rattle.tv_spec_plane.specs.Limits.{HasCoordinates}
 use Rattle.tv_laws_tiling.specs.Hull.{IsLess}
@@ -17,16 +17,13 @@ use Rattle.tv_laws_tiling.proofs.Turns.{side-sum, side-frame, side-spread, turn-
 use Rattle.tv_laws_tiling.proofs.Crossings.{IsWeighted}
 
 pub at-small : (ps : List Point) → AreSmall ps → (i : ℕ) → HasCoordinates (at ps i)
-at-small ps small i = all-everywhere HasCoordinates ps (record { x = pos 0; y = pos 0 }) (omega arith, omega arith) small i
-
-abbrev pub base : Point
-base = record { x = pos 0; y = pos 0 }
+at-small ps small i = all-everywhere HasCoordinates ps origin (omega arith, omega arith) small i
 
 abbrev tilt : Point
 tilt = record { x = pos 1; y = negsuc 200 }
 
 unfoldable pub height : Point → ℤ
-height a = turn base tilt a
+height a = turn origin tilt a
 
 height-is : (a : Point) → height a ≡ a.y +ℤ (pos 201 *ℤ a.x)
 unfolding height turn
@@ -57,12 +54,12 @@ not-less p q f g (inr h) = g h.0 h.1
 pub height-flat : (a b c : Point) → turn a b c ≢ pos 0 → height b ≡ height a → height c ≡ height a → ⊥
 unfolding height
 height-flat a b c apart e f =
-    let same : base ≡ tilt = turn-flat a b c base tilt apart e f in
+    let same : origin ≡ tilt = turn-flat a b c origin tilt apart e f in
     let zero_one : pos 0 ≡ pos 1 = ap (λ (p : Point). p.x) same in
     omega (arith, ints)
 
 unfoldable pub lift : Rational → Point → ℤ
-lift p a = (pos p.k *ℤ height a) -ℤ side base tilt p
+lift p a = (pos p.k *ℤ height a) -ℤ side origin tilt p
 
 scale-less : (k : ℕ) (s t h : ℤ) → 0 < k → s <ℤ t → ((pos k *ℤ s) -ℤ h) <ℤ ((pos k *ℤ t) -ℤ h)
 scale-less k s t h positive less =
@@ -72,7 +69,7 @@ scale-less k s t h positive less =
 
 pub lift-less : (p : Rational) (a b : Point) → 0 < p.k → height a <ℤ height b → lift p a <ℤ lift p b
 unfolding lift
-lift-less p a b positive less = scale-less p.k (height a) (height b) (side base tilt p) positive less
+lift-less p a b positive less = scale-less p.k (height a) (height b) (side origin tilt p) positive less
 
 -- a point between the directions from a corner is below the corner where both lead down, and above it where both lead up
 pub lift-least : (a b c : Point) (p : Rational) → pos 0 ≤ℤ turn a b c → pos 0 <ℤ side c a p → pos 0 <ℤ side a b p → height a <ℤ height b → height a <ℤ height c → lift p a <ℤ pos 0
@@ -80,7 +77,7 @@ unfolding lift height
 lift-least a b c p d v w up_b up_c =
     let y = mul-pos-pos (side c a p) (height b -ℤ height a) v (omega (arith, ints)) in
     let z = mul-pos-pos (side a b p) (height c -ℤ height a) w (omega (arith, ints)) in
-    let x = mul-positive (turn a b c) (side base tilt p -ℤ (pos p.k *ℤ turn base tilt a)) d (rw (side-frame a b c base tilt p) (omega (arith, ints))) in
+    let x = mul-positive (turn a b c) (side origin tilt p -ℤ (pos p.k *ℤ turn origin tilt a)) d (rw (side-frame a b c origin tilt p) (omega (arith, ints))) in
     omega (arith, ints)
 
 pub lift-greatest : (a b c : Point) (p : Rational) → pos 0 ≤ℤ turn a b c → pos 0 <ℤ side c a p → pos 0 <ℤ side a b p → height b <ℤ height a → height c <ℤ height a → pos 0 <ℤ lift p a
@@ -88,7 +85,7 @@ unfolding lift height
 lift-greatest a b c p d v w down_b down_c =
     let y = mul-pos-neg (side c a p) (height b -ℤ height a) v (omega (arith, ints)) in
     let z = mul-pos-neg (side a b p) (height c -ℤ height a) w (omega (arith, ints)) in
-    let x = mul-negative (turn a b c) (side base tilt p -ℤ (pos p.k *ℤ turn base tilt a)) d (rw (side-frame a b c base tilt p) (omega (arith, ints))) in
+    let x = mul-negative (turn a b c) (side origin tilt p -ℤ (pos p.k *ℤ turn origin tilt a)) d (rw (side-frame a b c origin tilt p) (omega (arith, ints))) in
     omega (arith, ints)
 
 -- the sides of a point over a triangle of turn 1 are weights of the corners
@@ -116,10 +113,10 @@ unfolding lift height
 lift-weighted a b c p positive one apart =
     let sum : side a b p +ℤ (side b c p +ℤ side c a p) ≡ pos p.k = side-sum a b c p ∙ rw one (omega (arith, ints)) in
     record {
-      balance = balance_at (side b c p) (side c a p) (side a b p) (height a) (height b) (height c) (pos p.k) (side base tilt p) sum (side-spread a b c base tilt p one);
+      balance = balance_at (side b c p) (side c a p) (side a b p) (height a) (height b) (height c) (pos p.k) (side origin tilt p) sum (side-spread a b c origin tilt p one);
       total = omega (arith, ints);
       u_apart = apart.bc;
       v_apart = apart.ca;
       w_apart = apart.ab;
-      tilted = λ e f g. height-flat a b c (λ z. omega (arith, ints)) (scale-same p.k (height b) (height a) (side base tilt p) positive f e) (scale-same p.k (height c) (height a) (side base tilt p) positive g e);
+      tilted = λ e f g. height-flat a b c (λ z. omega (arith, ints)) (scale-same p.k (height b) (height a) (side origin tilt p) positive f e) (scale-same p.k (height c) (height a) (side origin tilt p) positive g e);
     }

@@ -9,7 +9,7 @@ use Rattle.tv_spec_plane.specs.Plane.{Point, at, turn}
 use Rattle.tv_spec_plane.specs.Tiling.{Rational, side, IsGeneric, IsInHull, IsLeft, IsInTriangle}
 use Rattle.tv_laws_tiling.specs.Edges.{IsTurned}
 use Rattle.tv_lemmas.proofs.Signs.{nonneg-positive, mul-nonneg-nonneg, positive, positive-true, true-positive}
-use Rattle.tv_laws_tiling.proofs.Rotations.{turn-exchange}
+use Rattle.tv_spec_plane.proofs.Turns.{turn-exchange}
 use Rattle.tv_laws_tiling.proofs.Turns.{side-sum, side-spread}
 
 unfoldable pub inside : List Point → Rational → Triple → Bool

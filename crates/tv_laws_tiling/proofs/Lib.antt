@@ -12,7 +12,6 @@ pub mod Exchanges
 mod Examples
 mod Counterexamples
 pub mod Members
-pub mod Rotations
 pub mod Squares
 pub mod SquareSides
 pub mod Diagonals

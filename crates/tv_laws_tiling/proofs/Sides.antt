@@ -10,8 +10,8 @@ use Rattle.tv_laws_tiling.specs.Edges.{sides, edges, back, IsTurned, AreTurned}
 use Rattle.tv_laws_tiling.specs.Points.{SpansPlane}
 use Rattle.tv_lemmas.proofs.Members.{all-at}
 use Rattle.tv_laws_tiling.proofs.Lists.{flat_map-among}
-use Rattle.tv_laws_tiling.proofs.Rotations.{turn-rotate}
-use Rattle.tv_laws_tiling.proofs.Turns.{turn-apart, turn-back}
+use Rattle.tv_spec_plane.proofs.Turns.{turn-rotate, turn-back}
+use Rattle.tv_laws_tiling.proofs.Turns.{turn-apart}
 
 pub turned-at : (ps : List Point) (ts : List Triple) → AreTurned ps ts → (i : ℕ) → i < length ts → IsTurned ps (triangle_at ts i)
 turned-at ps ts turned i h = all-at (IsTurned ps) ts _ turned i h

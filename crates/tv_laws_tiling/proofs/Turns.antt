@@ -1,12 +1,12 @@
 -- Turns and sides, as polynomials: how the turns of a point or the sides of a rational point over one triangle give
 -- those over every other line.
 use Rattle.std.specs.Prelude.{◌≡◌, ◌≢◌, ℤ, pos, ◌+ℤ◌, ◌-ℤ◌, ◌*ℤ◌, neg_ℤ}
-use Rattle.std.proofs.Common.{sym, refl, ap, subst, ◌∙◌, arith}
+use Rattle.std.proofs.Common.{refl, ap, subst, ◌∙◌, arith}
 use Rattle.std.proofs.lemmas.Int.{ints}
 use Rattle.tv_spec_plane.specs.Plane.{Point, turn}
 use Rattle.tv_spec_plane.specs.Tiling.{Rational, side}
 use Rattle.tv_lemmas.proofs.Signs.{factor-zero}
-use Rattle.tv_laws_tiling.proofs.Rotations.{turn-rotate, turn-exchange, turn-first}
+use Rattle.tv_spec_plane.proofs.Turns.{turn-first}
 use Rattle.tv_lemmas.proofs.Integers.{diff_of, diff-same, diffs}
 
 pub turn-is : (a b c : Point) → turn a b c ≡ ((b.x -ℤ a.x) *ℤ (c.y -ℤ a.y)) -ℤ ((b.y -ℤ a.y) *ℤ (c.x -ℤ a.x))
@@ -141,15 +141,6 @@ pub turn-spread : (a b c e f p : Point) → turn a b c ≡ pos 1 → turn e f p 
 turn-spread a b c e f p one =
     let h = side-spread a b c e f (whole p) one in
     rw (side-whole e f p, side-whole b c p, side-whole c a p, side-whole a b p) at h
-
-pub turn-last : (a b : Point) → turn a b a ≡ pos 0
-turn-last a b = turn-rotate a a b ∙ turn-first a b
-
-pub turn-second : (a b : Point) → turn a b b ≡ pos 0
-turn-second a b = turn-rotate b a b ∙ turn-last b a
-
-pub turn-back : (a b c : Point) → turn b a c ≡ neg_ℤ (turn a b c)
-turn-back a b c = sym (turn-rotate b a c) ∙ turn-exchange a b c
 
 pub turn-apart : (a b c : Point) → turn a b c ≡ pos 1 → a ≢ b
 turn-apart a b c one same =

@@ -2,29 +2,28 @@
 use Rattle.std.specs.Prelude.{◌≡◌, ◌≢◌, ℕ, ℤ, pos, negsuc, ◌+ℤ◌, ◌-ℤ◌, ◌*ℤ◌, ◌<ℤ◌, List}
 use Rattle.std.proofs.Common.{arith}
 use Rattle.std.proofs.lemmas.Int.{ints}
-use Rattle.tv_spec_plane.specs.Plane.{Point, at, turn, IsBetween}
+use Rattle.tv_spec_plane.specs.Plane.{Point, origin, at, turn, IsBetween}
 use Rattle.tv_lemmas.proofs.Integers.{sub-mul, diff_of, diff-pos, diff-same, diffs}
 use Rattle.tv_lemmas.proofs.Signs.{mul-nonneg-nonneg, mul-neg-pos, square-nonneg, squares-positive, neighbours-nonneg}
-use Rattle.tv_laws_tiling.proofs.Heights.{base}
 use Rattle.tv_laws_tiling.proofs.Turns.{turn-sum, turn-spread, point-same}
 
 -- ---- coordinates are turns over fixed lines
-turn-x : (p : Point) → turn base (record { x = pos 0; y = negsuc 0 }) p ≡ p.x
+turn-x : (p : Point) → turn origin (record { x = pos 0; y = negsuc 0 }) p ≡ p.x
 unfolding turn
 turn-x p = omega (arith, ints)
 
-turn-y : (p : Point) → turn base (record { x = pos 1; y = pos 0 }) p ≡ p.y
+turn-y : (p : Point) → turn origin (record { x = pos 1; y = pos 0 }) p ≡ p.y
 unfolding turn
 turn-y p = omega (arith, ints)
 
 spread-x : (a b c p : Point) → turn a b c ≡ pos 1 → p.x ≡ (turn b c p *ℤ a.x) +ℤ ((turn c a p *ℤ b.x) +ℤ (turn a b p *ℤ c.x))
 spread-x a b c p one =
-    let h = turn-spread a b c base (record { x = pos 0; y = negsuc 0 }) p one in
+    let h = turn-spread a b c origin (record { x = pos 0; y = negsuc 0 }) p one in
     rw (turn-x p, turn-x a, turn-x b, turn-x c) at h
 
 spread-y : (a b c p : Point) → turn a b c ≡ pos 1 → p.y ≡ (turn b c p *ℤ a.y) +ℤ ((turn c a p *ℤ b.y) +ℤ (turn a b p *ℤ c.y))
 spread-y a b c p one =
-    let h = turn-spread a b c base (record { x = pos 1; y = pos 0 }) p one in
+    let h = turn-spread a b c origin (record { x = pos 1; y = pos 0 }) p one in
     rw (turn-y p, turn-y a, turn-y b, turn-y c) at h
 
 -- ---- from a point k = (1 - l) a + l b

@@ -10,14 +10,14 @@ use Rattle.tv_laws_tiling.specs.Edges.{sides, IsTurned}
 use Rattle.tv_lemmas.proofs.Signs.{sign}
 use Rattle.tv_laws_tiling.specs.Points.{AreSmall, AreDistinct}
 use Rattle.tv_laws_tiling.proofs.Heights.{at-small}
-use Rattle.tv_laws_tiling.proofs.Rotations.{turn-rotate}
-use Rattle.tv_laws_tiling.proofs.Turns.{turn-last, turn-second, turn-back, turn-sum, turn-flat}
+use Rattle.tv_spec_plane.proofs.Turns.{turn-rotate, turn-return, turn-last, turn-back}
+use Rattle.tv_laws_tiling.proofs.Turns.{turn-sum, turn-flat}
 use Rattle.tv_laws_tiling_converse.proofs.Spots.{spot, Leads, IsPlace, spot-leads}
 
 -- a point on the lines of both sides at a corner is the corner
 pub corner-same : (d e f p : Point) → turn d e f ≡ pos 1 → turn d e p ≡ pos 0 → turn f d p ≡ pos 0 → p ≡ d
 corner-same d e f p one de fd =
-    let pd : turn p d d ≡ pos 0 = turn-second p d in
+    let pd : turn p d d ≡ pos 0 = turn-last p d in
     let pe : turn p d e ≡ pos 0 = sym (turn-rotate p d e) ∙ de in
     let pf : turn p d f ≡ pos 0 = sym (turn-rotate p d f) ∙ (turn-back f d p ∙ ap neg_ℤ fd) in
     turn-flat d e f p d (λ z. omega (arith, ints)) (pe ∙ sym pd) (pf ∙ sym pd)
@@ -115,8 +115,8 @@ pub record IsFacing (ps : List Point) (a : ℕ) (b c : Point) (e f : ℕ) : Type
 
 pub corner-facing : (ps : List Point) → AreSmall ps → (t : Triple) (a : ℕ) (b c : Point) (e f : ℕ) → IsPlace (at ps a) b c → IsCorner ps t a e f (spot (at ps a) b c) → IsFacing ps a b c e f
 corner-facing ps small t a b c e f place h = record {
-  out = lead-second _ _ _ (turn-last (at ps a) (at ps e)) (spot-leads (at ps a) (at ps e) (at ps a) b c (at-small ps small a) (at-small ps small e) place h.left.ab);
-  home = lead-second _ _ _ (turn-second (at ps f) (at ps a)) (spot-leads (at ps f) (at ps a) (at ps a) b c (at-small ps small f) (at-small ps small a) place h.left.ca);
+  out = lead-second _ _ _ (turn-return (at ps a) (at ps e)) (spot-leads (at ps a) (at ps e) (at ps a) b c (at-small ps small a) (at-small ps small e) place h.left.ab);
+  home = lead-second _ _ _ (turn-last (at ps f) (at ps a)) (spot-leads (at ps f) (at ps a) (at ps a) b c (at-small ps small f) (at-small ps small a) place h.left.ca);
 }
 
 pub corner-nonneg : (t u : ℤ) → (pos 0 <ℤ t) ⊎ ((t ≡ pos 0) × (pos 0 <ℤ u)) → pos 0 ≤ℤ t

@@ -5,10 +5,11 @@ use Rattle.std.proofs.Common.{sym, ◌∙◌, arith, inl, inr}
 use Rattle.std.proofs.lemmas.Int.{ints}
 use Rattle.tv_spec_plane.specs.Plane.{Point, at, turn, Segment}
 use Rattle.tv_spec_plane.specs.Tiling.{IsInHull}
+use Rattle.tv_spec_plane.proofs.Turns.{turn-return}
 use Rattle.tv_lemmas.proofs.Signs.{nonneg-positive, sign, mul-neg-pos}
 use Rattle.tv_laws_tiling.specs.Points.{AreSmall}
 use Rattle.tv_laws_tiling.proofs.Heights.{at-small}
-use Rattle.tv_laws_tiling.proofs.Turns.{turn-last, turn-spread, turn-flat}
+use Rattle.tv_laws_tiling.proofs.Turns.{turn-spread, turn-flat}
 use Rattle.tv_laws_tiling.proofs.Sides.{IsThird}
 use Rattle.tv_laws_tiling_converse.proofs.Spots.{spot, Leads, IsPlace, small-near, mirror, mirror-near, turn-mirror, leads-spot}
 
@@ -45,7 +46,7 @@ module _ (ps : List Point) (small : AreSmall ps) where
   pub mirror-turn : (s : Segment) (c : ℕ) → IsThird ps s c → turn (at ps s.0) (at ps s.1) (mirror (at ps s.0) (at ps c)) ≡ neg_ℤ (pos 1)
   mirror-turn s c third =
       let e = turn-mirror (at ps s.0) (at ps s.1) (at ps s.0) (at ps c) in
-      let f = turn-last (at ps s.0) (at ps s.1) in
+      let f = turn-return (at ps s.0) (at ps s.1) in
       let g = third.turned in
       omega (arith, ints)
 

@@ -13,8 +13,8 @@ use Rattle.tv_lemmas.proofs.Signs.{mul-nonneg-neg, factor-one}
 use Rattle.tv_laws_tiling.specs.Points.{AreSmall, AreDistinct}
 use Rattle.tv_laws_tiling.proofs.Lists.{flat_map-among, among-flat_map, once-flat_map, find-negative}
 use Rattle.tv_laws_tiling.proofs.Heights.{at-small}
-use Rattle.tv_laws_tiling.proofs.Rotations.{turn-rotate}
-use Rattle.tv_laws_tiling.proofs.Turns.{turn-last, turn-second, turn-sum, turn-spread}
+use Rattle.tv_spec_plane.proofs.Turns.{turn-rotate, turn-return, turn-last}
+use Rattle.tv_laws_tiling.proofs.Turns.{turn-sum, turn-spread}
 use Rattle.tv_laws_tiling.proofs.Sides.{turned-at, IsThird, third-apart, IsSide, side-of, sides-once}
 use Rattle.tv_laws_tiling.proofs.Insides.{triangle-left}
 use Rattle.tv_laws_tiling_converse.proofs.Spots.{spot, Leads, mirror, turn-mirror, spot-leads, leads-spot, spot-generic, spot-left}
@@ -66,18 +66,18 @@ module _ (ps : List Point) (ts : List Triple) (small : AreSmall ps) (distinct : 
   out-never s c e f third one none beyond weight =
       let spread = turn-spread (at ps s.0) (at ps e) (at ps f) (at ps c) (at ps s.0) (at ps s.1) one in
       let m = turn-mirror (at ps s.0) (at ps e) (at ps s.0) (at ps c) in
-      let l = turn-last (at ps s.0) (at ps e) in
+      let l = turn-return (at ps s.0) (at ps e) in
       let r = turn-rotate (at ps c) (at ps s.0) (at ps e) in
       let t = turn-rotate (at ps c) (at ps s.0) (at ps s.1) in
       let y : turn (at ps c) (at ps s.0) (at ps e) <ℤ pos 0 = omega (arith, ints) in
-      never-by _ _ _ _ _ _ _ spread (turn-second (at ps c) (at ps s.0)) none (sym t ∙ third.turned) weight y
+      never-by _ _ _ _ _ _ _ spread (turn-last (at ps c) (at ps s.0)) none (sym t ∙ third.turned) weight y
 
   -- b is on the line of the side home to a: then it is that side's beginning
   home-back : (s : Segment) (c e f : ℕ) → IsThird ps s c → turn (at ps s.0) (at ps e) (at ps f) ≡ pos 1 → turn (at ps f) (at ps s.0) (at ps s.1) ≡ pos 0 → pos 0 <ℤ turn (at ps s.0) (at ps e) (at ps s.1) → at ps s.1 ≡ at ps f
   home-back s c e f third one none weight =
       let spread = turn-spread (at ps s.0) (at ps e) (at ps f) (at ps c) (at ps s.0) (at ps s.1) one in
       let t = turn-rotate (at ps c) (at ps s.0) (at ps s.1) in
-      let weight_one : turn (at ps s.0) (at ps e) (at ps s.1) ≡ pos 1 = back-one (turn (at ps e) (at ps f) (at ps s.1)) (turn (at ps f) (at ps s.0) (at ps s.1)) (turn (at ps s.0) (at ps e) (at ps s.1)) (turn (at ps c) (at ps s.0) (at ps s.0)) (turn (at ps c) (at ps s.0) (at ps e)) (turn (at ps c) (at ps s.0) (at ps f)) (turn (at ps c) (at ps s.0) (at ps s.1)) spread (turn-second (at ps c) (at ps s.0)) none (sym t ∙ third.turned) weight in
+      let weight_one : turn (at ps s.0) (at ps e) (at ps s.1) ≡ pos 1 = back-one (turn (at ps e) (at ps f) (at ps s.1)) (turn (at ps f) (at ps s.0) (at ps s.1)) (turn (at ps s.0) (at ps e) (at ps s.1)) (turn (at ps c) (at ps s.0) (at ps s.0)) (turn (at ps c) (at ps s.0) (at ps e)) (turn (at ps c) (at ps s.0) (at ps f)) (turn (at ps c) (at ps s.0) (at ps s.1)) spread (turn-last (at ps c) (at ps s.0)) none (sym t ∙ third.turned) weight in
       let sum = turn-sum (at ps s.0) (at ps e) (at ps f) (at ps s.1) in
       corner-same (at ps f) (at ps s.0) (at ps e) (at ps s.1) (sym (turn-rotate (at ps f) (at ps s.0) (at ps e)) ∙ one) none (omega (arith, ints))
 
@@ -95,13 +95,13 @@ module _ (ps : List Point) (ts : List Triple) (small : AreSmall ps) (distinct : 
       let near = spot a b (at ps c) in
       let within_i : IsLeft (at ps (triangle_at ts i).a) (at ps (triangle_at ts i).b) (at ps (triangle_at ts i).c) near = is_side.to near (spot-left a b (at ps c) (at ps c) (at-small ps small c) place (omega (arith, ints)) one) in
       let within_j : IsLeft (at ps (triangle_at ts j).a) (at ps (triangle_at ts j).b) (at ps (triangle_at ts j).c) near = corner.to near (record {
-        ab = leads-spot a (at ps e) a b (at ps c) small_a small_e place (inr (turn-last a (at ps e), inl out));
+        ab = leads-spot a (at ps e) a b (at ps c) small_a small_e place (inr (turn-return a (at ps e), inl out));
         bc = leads-spot (at ps e) (at ps f) a b (at ps c) small_e small_f place (inl (omega (arith, ints)));
-        ca = leads-spot (at ps f) a a b (at ps c) small_f small_a place (inr (turn-second (at ps f) a, inl home));
+        ca = leads-spot (at ps f) a a b (at ps c) small_f small_a place (inr (turn-last (at ps f) a, inl home));
       }) in
       let same : j ≡ i = one-triangle near (spot-generic ps a b (at ps c) small place (λ z. omega (arith, ints))) j i hj hi (inl within_j) (inl within_i) in
       let far : pos 0 <ℤ side a b (spot a b (mirror a (at ps c))) = is_side.left _ (subst (λ (n : ℕ). IsLeft (at ps (triangle_at ts n).a) (at ps (triangle_at ts n).b) (at ps (triangle_at ts n).c) (spot a b (mirror a (at ps c)))) same left) in
-      let above = lead-third _ _ _ (turn-last a b) (turn-second a b) (spot-leads a b a b (mirror a (at ps c)) small_a (at-small ps small s.1) (place-mirror ps small s c) far) in
+      let above = lead-third _ _ _ (turn-return a b) (turn-last a b) (spot-leads a b a b (mirror a (at ps c)) small_a (at-small ps small s.1) (place-mirror ps small s c) far) in
       let below = mirror-turn ps small s c is_side.third in
       omega (arith, ints)
 

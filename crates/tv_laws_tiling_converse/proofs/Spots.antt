@@ -17,8 +17,8 @@ use Rattle.tv_laws_tiling.specs.Points.{AreSmall}
 use Rattle.tv_lemmas.proofs.Integers.{diff_of, diff-same, diffs}
 use Rattle.tv_lemmas.proofs.Signs.{sign}
 use Rattle.tv_laws_tiling.proofs.Heights.{at-small}
-use Rattle.tv_laws_tiling.proofs.Rotations.{turn-rotate}
-use Rattle.tv_laws_tiling.proofs.Turns.{turn-is, side-is, turn-flat, turn-last, turn-second}
+use Rattle.tv_spec_plane.proofs.Turns.{turn-rotate, turn-return, turn-last}
+use Rattle.tv_laws_tiling.proofs.Turns.{turn-is, side-is, turn-flat}
 
 abbrev pub digits : ℤ → ℤ → ℤ → ℤ
 digits s t u = (pos 1000000000000 *ℤ s) +ℤ ((pos 1000000 *ℤ t) +ℤ u)
@@ -142,7 +142,7 @@ spot-generic ps a b c small h apart = record {
 -- a spot on the left of the side ab of a triangle is inside the triangle
 pub spot-left : (a b c d : Point) → HasCoordinates d → IsPlace a b c → pos 0 <ℤ turn a b c → turn a b d ≡ pos 1 → IsLeft a b d (spot a b c)
 spot-left a b c d hd h left one = record {
-  ab = leads-spot a b a b c h.first h.second h (inr (turn-last a b, inr (turn-second a b, left)));
+  ab = leads-spot a b a b c h.first h.second h (inr (turn-return a b, inr (turn-last a b, left)));
   bc = leads-spot b d a b c h.second hd h (inl (let e = turn-rotate a b d in omega (arith, ints)));
-  ca = leads-spot d a a b c hd h.first h (inr (turn-second d a, inl (let e = turn-rotate d a b in omega (arith, ints))));
+  ca = leads-spot d a a b c hd h.first h (inr (turn-last d a, inl (let e = turn-rotate d a b in omega (arith, ints))));
 }

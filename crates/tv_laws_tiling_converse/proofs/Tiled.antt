@@ -11,7 +11,7 @@ use Rattle.tv_lemmas.proofs.Signs.{nonneg-positive, sign}
 use Rattle.tv_laws_tiling.specs.Points.{AreSmall, AreDistinct, SpansPlane}
 use Rattle.tv_laws_tiling_converse.specs.Laws.{TilingTrianglesMatch}
 use Rattle.tv_laws_tiling.proofs.Lists.{among-flat_map}
-use Rattle.tv_laws_tiling.proofs.Rotations.{turn-rotate, turn-exchange}
+use Rattle.tv_spec_plane.proofs.Turns.{turn-rotate, turn-exchange}
 use Rattle.tv_laws_tiling.proofs.Turns.{turn-apart, turn-sum, turn-flat}
 use Rattle.tv_laws_tiling.proofs.Sides.{turned-at}
 use Rattle.tv_laws_tiling.proofs.Spread.{spans-three}

@@ -141,7 +141,7 @@ has-lower_row rows i j d h = let falls = rows-descend rows i d in grind (arith, 
 pub has-lower : (rows : List ℕ) (i j : ℕ) → has rows i (suc j) ≡ true → has rows i j ≡ true
 has-lower rows i j h = grind (arith, nat_tests)
 
-row-past : (rows : List ℕ) (i : ℕ) → length rows ≤ i → slice_index rows i ≡ 0
+pub row-past : (rows : List ℕ) (i : ℕ) → length rows ≤ i → slice_index rows i ≡ 0
 row-past [] i l = refl
 row-past (row ∷ rows) zero l = absurd (omega arith)
 row-past (row ∷ rows) (suc i) l = row-past rows i (omega arith)

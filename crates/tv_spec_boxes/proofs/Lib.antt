@@ -1,5 +1,4 @@
 mod Values
-pub mod Sublists
 mod CountValues
 pub mod Vectors
 pub mod OneCornerWeb

@@ -11,7 +11,7 @@ use Rattle.tv_cells.specs.declared.legs.Legs.{Legs}
 use Rattle.tv_cells.specs.Cells.{cube, sublists_of}
 use Rattle.tv_cells.specs.Extras.{is_extras, extent}
 use Rattle.tv_spec_boxes.specs.Assignments.{Rows, Assignment, all_legs, class_of, assignments_of, same_vector}
-use Rattle.tv_spec_boxes.proofs.Sublists.{sublists_of-length}
+use Rattle.tv_cells.proofs.Sublists.{sublists_of-length}
 use Rattle.tv_spec_boxes.proofs.Vectors.{same_vector_tells}
 use Rattle.tv_spec_boxes.specs.Configurations.{Configuration, extras_of, fillings, fillings_of, boxes_left, boxes_of, chi_of, configurations, configurations_on}
 

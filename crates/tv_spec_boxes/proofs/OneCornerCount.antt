@@ -12,15 +12,15 @@ use Rattle.tv_cells.specs.declared.cell.Cell.{Cell}
 use Rattle.tv_cells.specs.declared.legs.Legs.{Legs}
 use Rattle.tv_cells.specs.Cells.{cube, sublists_of}
 use Rattle.tv_cells.specs.Costs.{overlap_cost, overlaps}
-use Rattle.tv_cells.specs.Extras.{is_extras, extent, count}
+use Rattle.tv_cells.specs.Extras.{is_extras, extent, count, empty_legs}
 use Rattle.tv_spec_boxes.specs.Assignments.{all_legs, no_legs, zeros, assignments, choices, assignments_of, edge_costs, edge_twist, overlaps_of}
 use Rattle.tv_spec_boxes.specs.Configurations.{Configuration, extras_of, fillings, configuration, configurations, configuration_sign, boxes_left, chi_of, signed_count}
-use Rattle.tv_spec_boxes.specs.OneCorner.{IsOneCorner, empty_legs, with_sign, corner_coefficient}
+use Rattle.tv_spec_boxes.specs.OneCorner.{IsOneCorner, with_sign, corner_coefficient}
 use Rattle.tv_spec_boxes.proofs.OneCornerWeb.{IsBare, one_corner_bare}
 use Rattle.tv_lemmas.specs.Sums.{total}
 use Rattle.tv_lemmas.proofs.Sums.{total-alike}
 use Rattle.tv_lemmas.proofs.Lists.{flat_map-none, flat_map-last}
-use Rattle.tv_spec_boxes.proofs.Sublists.{sublists_of-length}
+use Rattle.tv_cells.proofs.Sublists.{sublists_of-length}
 
 -- the boxes of one corner alone
 abbrev pub alone : List Cell → List (List Cell)

@@ -5,17 +5,16 @@ use Rattle.tv_spec_plane.specs.declared.records.Triple.{Triple}
 use Rattle.tv_spec_plane.specs.Plane.{Point}
 use Rattle.tv_spec_plane.specs.Web.{Web, compact, outer, edge_ref}
 use Rattle.tv_spec_boxes.specs.Assignments.{all_legs, no_legs}
-use Rattle.tv_spec_boxes.specs.OneCorner.{IsOneCorner, empty_legs}
+use Rattle.tv_cells.specs.Extras.{empty_legs}
+use Rattle.tv_spec_boxes.specs.OneCorner.{IsOneCorner}
 use Rattle.tv_spec_plane.specs.Web.{NamesAll}
+use Rattle.tv_spec_plane.proofs.Examples.{triple}
 
 -- what is needed of such a web
 pub record IsBare (w : Web) : Type 0 where
   pub edges : compact w ≡ []
   pub legs : all_legs w [] (no_legs w) ≡ empty_legs ∷ []
   pub points : length w.points ≡ 3
-
-abbrev triple : ℕ → ℕ → ℕ → Triple
-triple a b c = record { a = a; b = b; c = c }
 
 abbrev one : Point → Point → Point → List ℤ → Triple → Web
 one x y z hs t = record { points = x ∷ y ∷ z ∷ []; triangles = t ∷ []; heights = hs }

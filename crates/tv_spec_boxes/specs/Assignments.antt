@@ -8,7 +8,7 @@
 -- legs_of a fixed c  == the three legs of a corner
 -- all_legs w a fixed == the legs of each corner, in the order of corners
 -- zeros n            == n zeros
--- plus, times        == sum of two vectors, and whole multiple of one
+-- times n v          == the whole multiple of a vector
 -- over_edges add none f es a == the sum of f over the edges with their diagrams, by that addition and its zero
 -- sum_on f es a      == so of whole numbers
 -- class_by w e d     == the class of an edge with its diagram: size times class
@@ -20,14 +20,16 @@
 --                       fewer cells first, then the one with the greater row first
 -- assignments w d    == the assignments of degree at most d, each once, in order, by the diagrams in the order of edges:
 --                       of a web in which every compact edge has a degree of at least 1
+-- same_rows, same_choice == two diagrams, or two lists of diagrams, are equal
 -- same_vector u v    == the two vectors are equal
 -- assignments_of w v == the assignments of class v
-use Rattle.std.specs.Prelude.{ℕ, zero, suc, ◌-◌, ◌*◌, ℤ, pos, ◌+ℤ◌, ◌*ℤ◌, List, [], ◌∷◌, map, filter, length, slice_index_or, Bool, nat_le}
+use Rattle.std.specs.Prelude.{ℕ, zero, suc, ◌-◌, ◌*◌, ℤ, pos, ◌+ℤ◌, ◌*ℤ◌, List, [], ◌∷◌, map, filter, length, slice_index_or, Bool, nat_eq, nat_le}
 use Rattle.std.specs.Ordering.{int_eq}
 use Rattle.std.specs.Cmp.Lexicographic.{pointwise}
 use Rattle.std.specs.List.{flat_map}
 use Rattle.tv_lemmas.specs.Naturals.{as_natural}
 use Rattle.tv_lemmas.specs.Sums.{sum_of}
+pub use Rattle.tv_lemmas.specs.Sums.{plus}
 use Rattle.tv_spec_plane.specs.declared.records.CompactEdge.{CompactEdge}
 use Rattle.tv_spec_plane.specs.declared.records.OuterEdge.{OuterEdge}
 use Rattle.tv_spec_plane.specs.declared.records.EdgeRef.{EdgeRef}
@@ -60,11 +62,6 @@ all_legs w a fixed = map (legs_of a fixed) (corners w)
 abbrev pub zeros : ℕ → List ℤ
 zeros zero = []
 zeros (suc n) = pos 0 ∷ zeros n
-
-abbrev pub plus : List ℤ → List ℤ → List ℤ
-plus [] v = v
-plus (x ∷ u) [] = x ∷ u
-plus (x ∷ u) (y ∷ v) = (x +ℤ y) ∷ plus u v
 
 abbrev pub times : ℕ → List ℤ → List ℤ
 times n v = map (λ x. pos n *ℤ x) v
@@ -109,6 +106,12 @@ choices (g ∷ gs) d = flat_map (λ n. flat_map (λ rows. map (λ a. rows ∷ a)
 
 unfoldable pub assignments : Web → ℕ → List Assignment
 assignments w d = choices (map (λ e. as_natural (edge_degree w e)) (compact w)) d
+
+abbrev pub same_rows : Rows → Rows → Bool
+same_rows = pointwise nat_eq
+
+abbrev pub same_choice : List Rows → List Rows → Bool
+same_choice = pointwise same_rows
 
 abbrev pub same_vector : List ℤ → List ℤ → Bool
 same_vector = pointwise int_eq

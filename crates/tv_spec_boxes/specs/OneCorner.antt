@@ -1,18 +1,13 @@
 -- Webs of one triangle.
 --
 -- IsOneCorner w == three points, one unimodular triangle on them, and a height for each
--- empty_legs    == no leg has a cell
 -- with_sign even n == n where even holds, else -n
 -- corner_coefficient n == the number of sets of n boxes at a corner without legs, with the sign (-1)^n; 0 below 0
-use Rattle.std.specs.Prelude.{◌≡◌, ℕ, ◌%◌, ℤ, pos, negsuc, neg_ℤ, [], length, Bool, cond, nat_eq}
+use Rattle.std.specs.Prelude.{◌≡◌, ℕ, ◌%◌, ℤ, pos, negsuc, neg_ℤ, length, Bool, cond, nat_eq}
 use Rattle.tv_spec_plane.specs.Plane.{at, IsUnimodular}
 use Rattle.tv_spec_plane.specs.Tiling.{triangle_at}
 use Rattle.tv_spec_plane.specs.Web.{Web, NamesAll}
-use Rattle.tv_cells.specs.declared.legs.Legs.{Legs}
-use Rattle.tv_cells.specs.Extras.{count}
-
-abbrev pub empty_legs : Legs
-empty_legs = record { along_x = []; along_y = []; along_z = [] }
+use Rattle.tv_cells.specs.Extras.{empty_legs, count}
 
 pub record IsOneCorner (w : Web) : Type 0 where
   pub points : length w.points ≡ 3

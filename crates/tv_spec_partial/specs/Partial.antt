@@ -2,7 +2,6 @@
 --
 -- is_met t e        == one of the edge's two corners is among the first t
 -- is_pending t e    == exactly one of them is
--- no_edge           == what stands for an edge past the last
 -- pending w t       == the numbers of the pending edges, rising
 -- is_empty rows     == the diagram has no cell
 -- rests_on t es a   == the assignment has the empty diagram on every edge that is not met
@@ -14,16 +13,14 @@
 --                      the first t corners, of class v and Euler characteristic n, in the order of configurations
 -- partial_chi w t c == the Euler characteristic: edge costs, and boxes, less the overlap costs of the first t corners
 -- partial_sign w t c == (-1)^(chi + s), with s the sum of the normal degree at a times the size
--- same_rows, same_choice == two diagrams, or two lists of diagrams, are equal
 -- partial_count w t choice v n == the sum of the signs over those whose diagrams on the pending edges are the choice
 use Rattle.std.specs.Prelude.{ℕ, ℤ, pos, ◌+ℤ◌, ◌-ℤ◌, List, [], ◌∷◌, map, filter, length, take, slice_index_or, Bool, true, cond, not, ◌&&◌, ◌||◌, nat_eq, nat_lt}
 use Rattle.std.specs.List.{flat_map}
-use Rattle.std.specs.Cmp.Lexicographic.{pointwise}
 use Rattle.tv_lemmas.specs.Sums.{total}
 use Rattle.tv_spec_plane.specs.declared.records.CompactEdge.{CompactEdge}
-use Rattle.tv_spec_plane.specs.Web.{Web, compact, below, sign}
+use Rattle.tv_spec_plane.specs.Web.{Web, no_edge, compact, below, sign}
 use Rattle.tv_cells.specs.declared.legs.Legs.{Legs}
-use Rattle.tv_spec_boxes.specs.Assignments.{Rows, Assignment, no_legs, all_legs, assignments_of, edge_costs, edge_twist, overlaps_of}
+use Rattle.tv_spec_boxes.specs.Assignments.{Rows, Assignment, no_legs, all_legs, assignments_of, edge_costs, edge_twist, overlaps_of, same_choice}
 use Rattle.tv_spec_boxes.specs.Configurations.{Configuration, configuration, fillings_of, boxes_of}
 
 abbrev pub is_met : ℕ → CompactEdge → Bool
@@ -31,9 +28,6 @@ is_met t e = nat_lt e.corner_c t || nat_lt e.corner_d t
 
 abbrev pub is_pending : ℕ → CompactEdge → Bool
 is_pending t e = cond (nat_lt e.corner_c t) (not (nat_lt e.corner_d t)) (nat_lt e.corner_d t)
-
-abbrev pub no_edge : CompactEdge
-no_edge = record { a = 0; b = 0; c = 0; d = 0; corner_c = 0; corner_d = 0 }
 
 abbrev pub pending : Web → ℕ → List ℕ
 pending w t = filter (λ k. is_pending t (slice_index_or (compact w) k no_edge)) (below (length (compact w)))
@@ -68,12 +62,6 @@ partial_chi w t c = (edge_costs w c.diagrams +ℤ pos (boxes_of c.extras)) -ℤ 
 
 abbrev pub partial_sign : Web → ℕ → Configuration → ℤ
 partial_sign w t c = sign (partial_chi w t c +ℤ edge_twist w c.diagrams)
-
-abbrev pub same_rows : Rows → Rows → Bool
-same_rows = pointwise nat_eq
-
-abbrev pub same_choice : List Rows → List Rows → Bool
-same_choice = pointwise same_rows
 
 unfoldable pub partial_count : Web → ℕ → List Rows → List ℤ → ℤ → ℤ
 partial_count w t choice v n = total (partial_sign w t) (filter (λ c. same_choice (chosen t (compact w) c.diagrams) choice) (partial_configurations w t v n))

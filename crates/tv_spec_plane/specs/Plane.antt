@@ -1,6 +1,7 @@
 -- Points of the plane, turns and segments.
 --
 -- Point        == a point with whole coordinates x and y
+-- origin       == the point (0, 0)
 -- at ps i      == point i of the list, or the origin past its end
 -- turn a b c   == the cross product of b - a and c - a: above 0 where a, b, c turn counter-clockwise
 -- doubled_area a b c == the doubled area of the triangle, which is the absolute value of its turn
@@ -15,8 +16,11 @@ use Rattle.tv_spec_plane.specs.declared.records.RawPoint.{RawPoint}
 abbrev pub Point : Type 0
 Point = RawPoint
 
+abbrev pub origin : Point
+origin = record { x = pos 0; y = pos 0 }
+
 abbrev pub at : List Point → ℕ → Point
-at ps i = slice_index_or ps i (record { x = pos 0; y = pos 0 })
+at ps i = slice_index_or ps i origin
 
 unfoldable pub turn : Point → Point → Point → ℤ
 turn a b c = ((b.x -ℤ a.x) *ℤ (c.y -ℤ a.y)) -ℤ ((b.y -ℤ a.y) *ℤ (c.x -ℤ a.x))

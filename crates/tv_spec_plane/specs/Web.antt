@@ -1,7 +1,6 @@
 -- A web: listed points, triangles and heights, and what its edges, corners, classes, degrees and signs are.
 --
 -- Web              == points, triangles and heights
--- below n          == 0, 1, .., n - 1
 -- pairs n          == the pairs a < b below n, in order
 -- has t a          == a is a point of triangle t
 -- NamesAll t       == the triangle names 0, 1 and 2
@@ -11,6 +10,8 @@
 -- compact_by, outer_by == the edge, where its triangles are two, where there is one
 -- compact w        == the compact edges, those of two triangles, in order of their points
 -- outer w          == the open edges, those of one triangle, in order of their points
+-- no_edge          == what stands for an edge past the last
+-- names_compact a b, names_outer a b == the test that an edge is that of a and b
 -- edge_ref w a b   == the place of the edge of a and b in one of the two lists
 -- rising a b c     == the three in rising order
 -- corner_on w p    == the corner of three points in rising order, with its edges
@@ -27,8 +28,9 @@
 -- parity z         == 1 where z is odd, else 0
 -- sign z           == 1 where z is even, else -1
 -- class_sign ps v chi == the sign that every configuration of that class and Euler characteristic has
-use Rattle.std.specs.Prelude.{ℕ, zero, suc, ◌-◌, ◌%◌, ℤ, pos, negsuc, neg_ℤ, ◌+ℤ◌, ◌-ℤ◌, ◌*ℤ◌, List, [], ◌∷◌, map, filter, length, Bool, cond, ◌&&◌, ◌||◌, nat_eq, nat_lt, IsTrue, Option, Some, None, unsigned_abs}
+use Rattle.std.specs.Prelude.{ℕ, suc, ◌-◌, ◌%◌, ℤ, pos, negsuc, neg_ℤ, ◌+ℤ◌, ◌-ℤ◌, ◌*ℤ◌, List, [], ◌∷◌, map, filter, length, Bool, cond, ◌&&◌, ◌||◌, nat_eq, nat_lt, IsTrue, Option, Some, None, unsigned_abs}
 use Rattle.std.specs.List.{flat_map, filter_map, range_with_len, position_or_len}
+pub use Rattle.tv_lemmas.specs.Naturals.{below}
 use Rattle.tv_spec_plane.specs.declared.records.Triple.{Triple}
 use Rattle.tv_spec_plane.specs.declared.records.CompactEdge.{CompactEdge}
 use Rattle.tv_spec_plane.specs.declared.records.OuterEdge.{OuterEdge}
@@ -42,9 +44,6 @@ pub record Web : Type 0 where
   pub points : List Point
   pub triangles : List Triple
   pub heights : List ℤ
-
-abbrev pub below : ℕ → List ℕ
-below n = range_with_len 0 n
 
 abbrev pub pairs : ℕ → List (ℕ × ℕ)
 pairs n = flat_map (λ a. map (λ b. (a, b)) (range_with_len (suc a) (n - suc a))) (below n)
@@ -82,10 +81,19 @@ compact w = filter_map (λ p. compact_by w p.0 p.1 (owners w p.0 p.1)) (pairs (l
 unfoldable pub outer : Web → List OuterEdge
 outer w = filter_map (λ p. outer_by p.0 p.1 (owners w p.0 p.1)) (pairs (length w.points))
 
+abbrev pub no_edge : CompactEdge
+no_edge = record { a = 0; b = 0; c = 0; d = 0; corner_c = 0; corner_d = 0 }
+
+abbrev pub names_compact : ℕ → ℕ → CompactEdge → Bool
+names_compact a b e = nat_eq e.a a && nat_eq e.b b
+
+abbrev pub names_outer : ℕ → ℕ → OuterEdge → Bool
+names_outer a b e = nat_eq e.a a && nat_eq e.b b
+
 unfoldable pub edge_ref : Web → ℕ → ℕ → EdgeRef
 edge_ref w a b =
-    let inner = position_or_len (λ (e : CompactEdge). nat_eq e.a a && nat_eq e.b b) (compact w) in
-    cond (nat_lt inner (length (compact w))) (Compact inner) (Outer (position_or_len (λ (e : OuterEdge). nat_eq e.a a && nat_eq e.b b) (outer w)))
+    let inner = position_or_len (names_compact a b) (compact w) in
+    cond (nat_lt inner (length (compact w))) (Compact inner) (Outer (position_or_len (names_outer a b) (outer w)))
 
 -- the points of a triangle in rising order
 abbrev pub rising : ℕ → ℕ → ℕ → ℕ × ℕ × ℕ

@@ -11,7 +11,7 @@ use Rattle.tv_ring.specs.Whole.{wholes}
 use Rattle.tv_ring.specs.Sums.{sum_below, term, convolution, total_below}
 use Rattle.tv_ring.proofs.Sums.{sum_below-none, sum_below-more, sum_below-same, total_below-none, total_below-more}
 use Rattle.tv_ring.proofs.Products.{term_is, convolution_is}
-use Rattle.tv_laws_series.specs.Terms.{natural, above}
+use Rattle.tv_laws_series.specs.Terms.{above}
 use Rattle.tv_spec_plane.specs.Web.{below}
 use Rattle.tv_spec_series.specs.Reduced.{product_at, quotient_size}
 
@@ -61,11 +61,7 @@ as_natural-none (negsuc n) h = refl
 
 as_natural-above : (low n : ℤ) → as_natural (n -ℤ low) ≡ above low n
 unfolding above
-as_natural-above low n = same (n -ℤ low)
-  where
-    same : (z : ℤ) → as_natural z ≡ natural z
-    same (pos k) = refl
-    same (negsuc k) = refl
+as_natural-above low n = refl
 
 -- a term of the sum
 abbrev piece : ℤ → (ℤ → ℤ) → (ℤ → ℤ) → ℤ → ℕ → ℤ

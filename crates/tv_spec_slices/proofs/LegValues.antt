@@ -1,11 +1,9 @@
 -- Worked values of slices and paths beside legs that are not the same when they are turned.
 use Rattle.std.specs.Prelude.{◌≡◌, pos, negsuc, [], ◌∷◌, map, false, refl}
 use Rattle.tv_cells.specs.declared.legs.Legs.{Legs}
+use Rattle.tv_cells.specs.Extras.{empty_legs}
 use Rattle.tv_spec_slices.specs.Slices.{completion}
 use Rattle.tv_spec_slices.specs.Paths.{columns, shape, ways, paths, is_entry}
-
-abbrev no_legs : Legs
-no_legs = record { along_x = []; along_y = []; along_z = [] }
 
 -- a leg of one cell along x and one of two cells along z: 1, 3, 8
 abbrev two_legs : Legs
@@ -23,6 +21,6 @@ wide_leg_completion : completion wide_leg (pos 0) (shape 1 (1 ∷ [])) ≡ 0
 wide_leg_completion = refl
 
 -- two boxes at diagonal -1 take two more above it, so with two boxes in all they are no entry
-costly_entry : is_entry no_legs 2 (negsuc 0) (shape 0 (2 ∷ [])) 2 ≡ false
+costly_entry : is_entry empty_legs 2 (negsuc 0) (shape 0 (2 ∷ [])) 2 ≡ false
 unfolding columns ways
 costly_entry = refl

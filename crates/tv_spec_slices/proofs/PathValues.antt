@@ -1,10 +1,8 @@
 -- Worked values of the steps of paths: falling columns, chains from a diagonal on, and entries off the middle.
 use Rattle.std.specs.Prelude.{◌≡◌, pos, negsuc, [], ◌∷◌, map, refl}
 use Rattle.tv_cells.specs.declared.legs.Legs.{Legs}
+use Rattle.tv_cells.specs.Extras.{empty_legs}
 use Rattle.tv_spec_slices.specs.Paths.{columns, shape, ways, paths, next_of, start_for, ways_at, entries}
-
-abbrev no_legs : Legs
-no_legs = record { along_x = []; along_y = []; along_z = [] }
 
 abbrev leg_x : Legs
 leg_x = record { along_x = 3 ∷ 1 ∷ []; along_y = []; along_z = [] }
@@ -15,22 +13,22 @@ unfolding columns
 falling_columns = refl
 
 -- one column at most, and none above a height of 3
-few_columns : columns no_legs (pos 0) 0 1 9 2 ∷ columns leg_x (pos 0) 0 2 3 1 ∷ [] ≡ ((2 ∷ []) ∷ []) ∷ ((3 ∷ 2 ∷ []) ∷ []) ∷ []
+few_columns : columns empty_legs (pos 0) 0 1 9 2 ∷ columns leg_x (pos 0) 0 2 3 1 ∷ [] ≡ ((2 ∷ []) ∷ []) ∷ ((3 ∷ 2 ∷ []) ∷ []) ∷ []
 unfolding columns
 few_columns = refl
 
 -- from diagonal -2 to a column of two at the middle: at -1 stand none, one or two; three are above the budget of one slice
-chains : map (ways no_legs 2 (negsuc 1) 2 (shape 0 (2 ∷ []))) (1 ∷ 2 ∷ 3 ∷ 4 ∷ 5 ∷ []) ≡ 0 ∷ 1 ∷ 1 ∷ 1 ∷ 0 ∷ []
+chains : map (ways empty_legs 2 (negsuc 1) 2 (shape 0 (2 ∷ []))) (1 ∷ 2 ∷ 3 ∷ 4 ∷ 5 ∷ []) ≡ 0 ∷ 1 ∷ 1 ∷ 1 ∷ 0 ∷ []
 unfolding columns ways
 chains = refl
 
 -- from -4 to a column of three at -1, each of the two between has three as well where there are nine in all
-long_chain : ways no_legs 3 (negsuc 3) 3 (shape 0 (3 ∷ [])) 9 ≡ 1
+long_chain : ways empty_legs 3 (negsuc 3) 3 (shape 0 (3 ∷ [])) 9 ≡ 1
 unfolding columns ways
 long_chain = refl
 
 -- up to the empty slice at diagonal 1 there is one way with no box, one with one and two with two; to a column of one, one with two
-ways_beyond : map (λ hs. map (ways_at no_legs 2 (pos 1) (shape 0 hs)) (0 ∷ 1 ∷ 2 ∷ [])) ([] ∷ (1 ∷ []) ∷ []) ≡ (1 ∷ 1 ∷ 2 ∷ []) ∷ (0 ∷ 0 ∷ 1 ∷ []) ∷ []
+ways_beyond : map (λ hs. map (ways_at empty_legs 2 (pos 1) (shape 0 hs)) (0 ∷ 1 ∷ 2 ∷ [])) ([] ∷ (1 ∷ []) ∷ []) ≡ (1 ∷ 1 ∷ 2 ∷ []) ∷ (0 ∷ 0 ∷ 1 ∷ []) ∷ []
 unfolding columns ways
 ways_beyond = refl
 
@@ -56,10 +54,10 @@ unfolding columns
 next_beyond = refl
 
 -- with two boxes at most: below the middle one box takes another one above it
-lower_entries : entries no_legs 2 (negsuc 0) ≡ (shape 0 [], 0) ∷ (shape 0 (1 ∷ []), 1) ∷ []
+lower_entries : entries empty_legs 2 (negsuc 0) ≡ (shape 0 [], 0) ∷ (shape 0 (1 ∷ []), 1) ∷ []
 unfolding columns ways
 lower_entries = refl
 
-upper_entries : entries no_legs 2 (pos 1) ≡ (shape 0 [], 0) ∷ (shape 0 [], 1) ∷ (shape 0 [], 2) ∷ (shape 0 (1 ∷ []), 2) ∷ []
+upper_entries : entries empty_legs 2 (pos 1) ≡ (shape 0 [], 0) ∷ (shape 0 [], 1) ∷ (shape 0 [], 2) ∷ (shape 0 (1 ∷ []), 2) ∷ []
 unfolding columns ways
 upper_entries = refl

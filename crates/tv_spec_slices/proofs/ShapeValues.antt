@@ -1,12 +1,9 @@
 -- Worked values of slices one by one: which columns fit, interlace and complete, beside legs of more than one cell.
-use Rattle.std.specs.Prelude.{◌≡◌, ℕ, pos, negsuc, List, [], ◌∷◌, map, true, false, refl}
-use Rattle.tv_cells.specs.declared.legs.Legs.{Legs}
+use Rattle.std.specs.Prelude.{◌≡◌, pos, negsuc, [], ◌∷◌, map, true, false, refl}
 use Rattle.tv_spec_slices.specs.Falling.{falls}
 use Rattle.tv_spec_slices.specs.Slices.{fits, interlaces, completion}
 use Rattle.tv_spec_slices.specs.Paths.{columns, shape, fitting, ways}
-
-abbrev legs_of : List ℕ → List ℕ → List ℕ → Legs
-legs_of x y z = record { along_x = x; along_y = y; along_z = z }
+use Rattle.tv_spec_slices.proofs.Values.{legs_of}
 
 falling_lists : map falls ([] ∷ (2 ∷ 2 ∷ 1 ∷ []) ∷ (1 ∷ 2 ∷ []) ∷ (1 ∷ 0 ∷ []) ∷ (0 ∷ []) ∷ []) ≡ true ∷ true ∷ false ∷ false ∷ false ∷ []
 falling_lists = refl

@@ -4,7 +4,7 @@ use Rattle.tv_cells.specs.declared.legs.Legs.{Legs}
 use Rattle.tv_spec_slices.specs.Slices.{fits, extras_of, completion}
 use Rattle.tv_spec_slices.specs.Paths.{columns, shape, ways, paths, next_of, is_entry, entries}
 
-abbrev legs_of : List ℕ → List ℕ → List ℕ → Legs
+abbrev pub legs_of : List ℕ → List ℕ → List ℕ → Legs
 legs_of x y z = record { along_x = x; along_y = y; along_z = z }
 
 -- the neighbours at diagonal 0 of the empty slice at -1, with at most two extras

@@ -5,6 +5,7 @@ use Rattle.std.specs.List.{flat_map, join_with_byte}
 use Rattle.std.proofs.lemmas.List.{take_more, take_all, flat_map_more}
 use Rattle.std.proofs.lemmas.List.Concat.{flat_map-append}
 use Rattle.std.proofs.lemmas.List.Folds.{flat_map-map}
+use Rattle.tv_lemmas.proofs.Lists.{flat_map-flat_map}
 use Rattle.tv_spec_text.specs.Reports.{Term, Section, term_line, section_lines}
 use Rattle.tv_spec_text.specs.Lines.{Word, Line, line_text, spelled}
 use Rattle.tv_text.specs.Printed.{spaced}
@@ -13,10 +14,6 @@ use Rattle.tv_text.specs.Refusals.{crowd_line, spread_line}
 pub flat_map-step : {A : Type 0} (f : A → List ℕ) (old now next : List ℕ) (xs : List A) (i : ℕ) (d : A) → i < length xs → now ≡ old ++ flat_map f (take i xs) → next ≡ now ++ f (get_or xs i d) → next ≡ old ++ flat_map f (take (i + 1) xs)
 flat_map-step f old now next xs i d h e n =
     n ∙ ap (λ z. z ++ f (get_or xs i d)) e ∙ flat_map_more f old (take i xs) (get_or xs i d) ∙ ap (λ z. old ++ flat_map f z) (sym (take_more xs i d h))
-
-pub flat_map-flat_map : {A B C : Type 0} (f : B → List C) (g : A → List B) (xs : List A) → flat_map f (flat_map g xs) ≡ flat_map (λ x. flat_map f (g x)) xs
-flat_map-flat_map f g [] = refl
-flat_map-flat_map f g (x ∷ xs) = flat_map-append f (g x) (flat_map g xs) ∙ ap (λ z. flat_map f (g x) ++ z) (flat_map-flat_map f g xs)
 
 pub join-numbers : (w : Word) (zs : List ℤ) → join_with_byte 32 (w ∷ map spelled zs) ≡ w ++ spaced zs
 join-numbers w [] = sym (append-nil w)

@@ -1,7 +1,7 @@
 -- What the checks of triangles, heights and degrees leave of a file and its web.
 use Rattle.std.proofs.Common.{◌≡◌, ◌≢◌, ℕ, ℤ, pos, ◌<ℤ◌, ◌≤ℤ◌, List, length, false, Result, Ok, Err, MatchResult, ap, sym, ◌∙◌, arith, subst}
 use Rattle.std.proofs.lemmas.Int.{ints}
-use Rattle.tv_spec_plane.specs.Web.{Web, compact, edge_degree}
+use Rattle.tv_spec_plane.specs.Web.{Web, compact, edge_degree, no_edge}
 use Rattle.tv_lemmas.proofs.Members.{all-at}
 use Rattle.tv_lattice.specs.Limits.{IsWithinLimits}
 use Rattle.tv_lattice.specs.declared.fault.InputError.{InputError}
@@ -13,7 +13,7 @@ use Rattle.tv_triangulation.specs.Mesh.{Mesh}
 use Rattle.tv_triangulation.specs.Turned.{turned}
 use Rattle.tv_triangulation.specs.Faults.{IsAnswer, IsAccepted as PassesChecks}
 use Rattle.tv_web.specs.Built.{bare_web}
-use Rattle.tv_degrees.specs.Edges.{edge_at, no_edge, with_heights}
+use Rattle.tv_degrees.specs.Edges.{edge_at, with_heights}
 use Rattle.tv_degrees.specs.Grades.{IsFirstLow}
 use Rattle.tv_spec_plane.specs.Graded.{HasDegree, IsGraded}
 use Rattle.tv_text.specs.Faults.{IsText}

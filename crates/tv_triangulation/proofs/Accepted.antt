@@ -6,7 +6,7 @@ use Rattle.std.proofs.lemmas.Bool.Decides.{nat_tests}
 use Rattle.tv_spec_plane.specs.declared.records.Triple.{Triple}
 use Rattle.tv_spec_plane.specs.Plane.{Point, at}
 use Rattle.tv_laws_tiling.specs.Edges.{IsListed, IsTurned, AreTurned}
-use Rattle.tv_laws_tiling.proofs.Rotations.{turn-exchange}
+use Rattle.tv_spec_plane.proofs.Turns.{turn-exchange}
 use Rattle.tv_triangulation.specs.Mesh.{Mesh, IsTriangulated}
 use Rattle.tv_triangulation.specs.Turned.{turn_of, turned_of, turned, IsUnit}
 use Rattle.tv_triangulation.specs.Checks.{AreListed, AreUnit}

@@ -9,7 +9,7 @@ use Rattle.tv_laws_tiling.specs.Members.{Among}
 use Rattle.tv_laws_tiling.specs.Hull.{IsHull}
 use Rattle.tv_laws_tiling.specs.Edges.{sides, IsTurned, IsMatched}
 use Rattle.tv_laws_tiling.specs.Points.{AreDistinct}
-use Rattle.tv_laws_tiling.proofs.Rotations.{turn-rotate}
+use Rattle.tv_spec_plane.proofs.Turns.{turn-rotate}
 use Rattle.tv_laws_tiling.proofs.Turns.{turn-sum, turn-apart}
 use Rattle.tv_laws_tiling_converse.proofs.Corners.{corner-same}
 use Rattle.tv_spec_plane.specs.Web.{NamesAll}

@@ -8,7 +8,7 @@ use Rattle.tv_spec_plane.specs.Tiling.{triangle_at}
 use Rattle.tv_laws_tiling.specs.Members.{Among, Once}
 use Rattle.tv_laws_tiling.proofs.Members.{among-append, once-append}
 use Rattle.tv_laws_tiling.specs.Edges.{sides, edges, IsTurned, AreTurned}
-use Rattle.tv_laws_tiling.proofs.Rotations.{turn-first, turn-rotate}
+use Rattle.tv_spec_plane.proofs.Turns.{turn-first, turn-rotate}
 use Rattle.tv_triangulation.specs.Checks.{IsShared, IsTwice, NoPair}
 
 -- where the first two sides of t are none of u's, and the third is one only where b is true

@@ -1,9 +1,8 @@
 -- The corners of a web, by its lists of edges.
 --
--- names_compact a b, names_outer a b == the test that an edge is that of a and b
 -- edge_ref_in cs os a b == the place of the edge of a and b in one of the two lists
 -- corner_in cs os t     == a triangle with its points in rising order and its edges
-use Rattle.std.specs.Prelude.{ℕ, List, length, Bool, cond, ◌&&◌, nat_eq, nat_lt}
+use Rattle.std.specs.Prelude.{ℕ, List, length, cond, nat_lt}
 use Rattle.std.specs.List.{position_or_len}
 use Rattle.tv_spec_plane.specs.declared.records.Triple.{Triple}
 use Rattle.tv_spec_plane.specs.declared.records.CompactEdge.{CompactEdge}
@@ -11,13 +10,7 @@ use Rattle.tv_spec_plane.specs.declared.records.OuterEdge.{OuterEdge}
 use Rattle.tv_spec_plane.specs.declared.records.EdgeRef.{EdgeRef}
 use Rattle.tv_spec_plane.specs.declared.records.EdgeRef.TheVariants.{Compact, Outer}
 use Rattle.tv_spec_plane.specs.declared.records.Corner.{Corner}
-use Rattle.tv_spec_plane.specs.Web.{rising}
-
-abbrev pub names_compact : ℕ → ℕ → CompactEdge → Bool
-names_compact a b e = nat_eq e.a a && nat_eq e.b b
-
-abbrev pub names_outer : ℕ → ℕ → OuterEdge → Bool
-names_outer a b e = nat_eq e.a a && nat_eq e.b b
+use Rattle.tv_spec_plane.specs.Web.{names_compact, names_outer, rising}
 
 unfoldable pub edge_ref_in : List CompactEdge → List OuterEdge → ℕ → ℕ → EdgeRef
 edge_ref_in cs os a b =

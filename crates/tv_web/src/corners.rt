@@ -2,7 +2,8 @@
 
 ghost use Rattle.std.specs.Prelude.{◌≡◌, ◌≤◌, ◌+◌, ◌<◌, ◌^◌, length, map, nat_eq, ◌&&◌, IfOk};
 ghost use Rattle.std.specs.List.{position, position_or_len};
-ghost use Rattle.tv_web.specs.Corners.{names_compact, names_outer, edge_ref_in, corner_in};
+ghost use Rattle.tv_spec_plane.specs.Web.{names_compact, names_outer};
+ghost use Rattle.tv_web.specs.Corners.{edge_ref_in, corner_in};
 
 use crate::triples;
 use std::alloc::{AllocError, Global};

@@ -1,9 +1,9 @@
 use Rattle.std.proofs.Common.{List, sym, ap, ◌∙◌, get_or, w64, arith}
 use Rattle.std.proofs.lemmas.Int.{to_z-of_z}
 use Rattle.tv_spec_plane.specs.declared.records.CompactEdge.{CompactEdge}
-use Rattle.tv_spec_plane.specs.Web.{Web, edge_ratio}
+use Rattle.tv_spec_plane.specs.Web.{Web, edge_ratio, no_edge}
 use Rattle.tv_lattice.proofs.Sums.{small-fits}
-use Rattle.tv_degrees.specs.Edges.{no_edge, edge_at}
+use Rattle.tv_degrees.specs.Edges.{edge_at}
 use Rattle.tv_degrees.proofs.Heights.{edge_ratio-heights}
 use Rattle.tv_degrees.proofs.grade.GradedWeb.ratio.Goals as goal
 
