@@ -1,23 +1,40 @@
 //! What no clause says: that calls succeed where memory is ample, and what std's own readers and writers do below.
 //! The expected values are counted by hand.
 
+ghost use Rattle.std.specs.Prelude.{◌<◌, ◌^◌};
+
 use crate::{
     Failed, MemSink, MemSource, ReadEnd, Sink, Source, StdSink, StdSource, read_all, write_all,
 };
+use std::alloc::Global;
 use std::io;
 use std::io::{ErrorKind, Read, Write};
 use std::test::Fail;
 
+// A write beyond the room takes what fits, and the next one fails.
+fn fills(sink: &mut MemSink) -> bool {
+    sink.write(b"abcdef") == Ok(4)
+        && sink.write(b"") == Ok(0)
+        && sink.faults() == 0
+        && sink.write(b"ef") == Err(Failed)
+        && sink.faults() == 1
+}
+
 #[test]
 fn a_sink_takes_what_it_has_room_for(rt: HostRuntime) -> Result<(), Fail> {
     let mut sink = MemSink::new(rt.alloc(), 4, 10, Vec::new(rt.alloc()))?;
-    assert_eq!(rt; sink.write(b"abcdef"), Ok(4));
-    assert_eq!(rt; sink.write(b""), Ok(0));
-    assert_eq!(rt; sink.faults(), 0);
-    assert_eq!(rt; sink.write(b"ef"), Err(Failed));
-    assert_eq!(rt; sink.faults(), 1);
-    assert_eq!(rt; sink.bytes(), b"abcd".as_slice());
+    assert!(rt; fills(&mut sink));
+    assert!(rt; sink.bytes() == b"abcd".as_slice());
     Ok(())
+}
+
+// Whether the read gives these bytes.
+fn gives(source: &mut MemSource, want: &[u8]) -> bool {
+    let mut buf = [0; 32];
+    match source.read(&mut buf) {
+        Ok(count) => &buf[..count] == want,
+        Err(_) => false,
+    }
 }
 
 #[test]
@@ -25,104 +42,77 @@ fn a_source_fails_at_the_listed_read_alone(rt: HostRuntime) -> Result<(), Fail> 
     let alloc = rt.alloc();
     let fails = vec![in alloc; 1]?;
     let mut source = MemSource::new(b"0123456789abcdefwxyz".to_vec(alloc)?, 16, fails);
-    let mut buf = [0; 32];
-    assert_eq!(rt; source.read(&mut buf), Ok(16));
-    assert_eq!(rt; &buf[..16], b"0123456789abcdef".as_slice());
-    assert_eq!(rt; source.read(&mut buf), Err(Failed));
-    assert_eq!(rt; source.faults(), 1);
-    assert_eq!(rt; source.read(&mut buf), Ok(4));
-    assert_eq!(rt; &buf[..4], b"wxyz".as_slice());
-    assert_eq!(rt; source.read(&mut buf), Ok(0));
-    assert_eq!(rt; source.faults(), 1);
+    assert!(rt; gives(&mut source, b"0123456789abcdef"));
+    assert!(rt; source.read(&mut [0; 32]) == Err(Failed) && source.faults() == 1);
+    assert!(rt; gives(&mut source, b"wxyz"));
+    assert!(rt; gives(&mut source, b"") && source.faults() == 1);
     Ok(())
+}
+
+// Whether all that is read, at most `limit` bytes, is this text.
+fn reads<S: Source>(alloc: Global, source: &mut S, limit: usize, want: &[u8]) -> bool
+    requires { limit < 2 ^ 32 }
+{
+    match read_all(alloc, source, limit) {
+        Ok(bytes) => bytes.as_slice() == want,
+        Err(_) => false,
+    }
 }
 
 #[test]
 fn reads_end_at_the_limit(rt: HostRuntime) -> Result<(), Fail> {
     let alloc = rt.alloc();
     let mut source = MemSource::new(b"abcdefgh".to_vec(alloc)?, 3, Vec::new(alloc));
-    assert_eq!(rt; read_all(alloc, &mut source, 4), Err(ReadEnd::TooLong));
-    let rest = read_all(alloc, &mut source, 3).map_err(|_| "the rest")?;
-    assert_eq!(rt; rest.as_slice(), b"fgh".as_slice());
-
-    let mut source = MemSource::new(b"abcdefgh".to_vec(alloc)?, 3, vec![in alloc; 1]?);
-    assert_eq!(rt; read_all(alloc, &mut source, 8), Err(ReadEnd::Fault));
-    assert_eq!(rt; source.faults(), 1);
-    let rest = read_all(alloc, &mut source, 8).map_err(|_| "the rest")?;
-    assert_eq!(rt; rest.as_slice(), b"defgh".as_slice());
+    assert!(rt; read_all(alloc, &mut source, 4) == Err(ReadEnd::TooLong));
+    assert!(rt; reads(alloc, &mut source, 3, b"fgh"));
     Ok(())
 }
 
+#[test]
+fn reads_end_at_a_fault(rt: HostRuntime) -> Result<(), Fail> {
+    let alloc = rt.alloc();
+    let mut source = MemSource::new(b"abcdefgh".to_vec(alloc)?, 3, vec![in alloc; 1]?);
+    assert!(rt; read_all(alloc, &mut source, 8) == Err(ReadEnd::Fault) && source.faults() == 1);
+    assert!(rt; reads(alloc, &mut source, 8, b"defgh"));
+    Ok(())
+}
+
+const TEXT: &[u8] = b"0123456789abcdefwxyz";
+
+#[test]
+fn writes_end_at_a_fault(rt: HostRuntime) -> Result<(), Fail> {
+    let mut sink = MemSink::new(rt.alloc(), 32, 10, vec![in rt.alloc(); 1]?)?;
+    assert!(rt; write_all(&mut sink, TEXT) == Err(Failed) && sink.faults() == 1);
+    assert!(rt; sink.bytes() == b"0123456789".as_slice());
+    Ok(())
+}
+
+// Two writes carry the text, so the third, which is listed, never comes.
 #[test]
 fn writes_offer_all_that_is_not_taken(rt: HostRuntime) -> Result<(), Fail> {
-    let alloc = rt.alloc();
-    let text = b"0123456789abcdefwxyz";
-    let mut sink = MemSink::new(alloc, 32, 10, vec![in alloc; 1]?)?;
-    assert_eq!(rt; write_all(&mut sink, text), Err(Failed));
-    assert_eq!(rt; sink.faults(), 1);
-    assert_eq!(rt; sink.bytes(), b"0123456789".as_slice());
-
-    // Two writes carry the text, so the third, which is listed, never comes.
-    let mut sink = MemSink::new(alloc, 32, 10, vec![in alloc; 2]?)?;
-    assert_eq!(rt; write_all(&mut sink, text), Ok(()));
-    assert_eq!(rt; sink.bytes(), text.as_slice());
+    let mut sink = MemSink::new(rt.alloc(), 32, 10, vec![in rt.alloc(); 2]?)?;
+    assert!(rt; write_all(&mut sink, TEXT) == Ok(()));
+    assert!(rt; sink.bytes() == TEXT);
     Ok(())
 }
 
 #[test]
-fn std_readers_and_writers_are_carried_over(rt: HostRuntime) -> Result<(), Fail> {
-    let alloc = rt.alloc();
+fn std_readers_are_carried_over(rt: HostRuntime) -> Result<(), Fail> {
     let mut source = StdSource::new(b"abc".as_slice());
-    let bytes = read_all(alloc, &mut source, 3).map_err(|_| "the slice")?;
-    assert_eq!(rt; bytes.as_slice(), b"abc".as_slice());
-
-    let mut held = Vec::new(alloc);
-    let mut sink = StdSink::new(&mut held);
-    assert_eq!(rt; write_all(&mut sink, b"abc"), Ok(()));
-    drop(sink);
-    assert_eq!(rt; held.as_slice(), b"abc".as_slice());
+    assert!(rt; reads(rt.alloc(), &mut source, 3, b"abc"));
     Ok(())
 }
 
-// A reader that fails, and a writer that takes `takes` bytes and whose flush fails.
-#[derive(Drop)]
-struct Broken {
-    takes: usize,
-}
-
-impl Read for Broken {
-    fn read(&mut self, _buf: &mut [u8]) -> io::Result<usize> {
-        Err(io::Error::from(ErrorKind::Interrupted))
-    }
-}
-
-impl Write for Broken {
-    fn write(&mut self, buf: &[u8]) -> io::Result<usize> {
-        Ok(self.takes.min(buf.len()))
-    }
-
-    fn flush(&mut self) -> io::Result<()> {
-        if self.takes == 0 {
-            return Ok(());
-        }
-        Err(io::Error::from(ErrorKind::BrokenPipe))
-    }
-}
-
 #[test]
-fn errors_of_std_are_faults(rt: HostRuntime) -> Result<(), Fail> {
-    let alloc = rt.alloc();
-    let mut source = StdSource::new(Broken { takes: 0 });
-    assert_eq!(rt; read_all(alloc, &mut source, 3), Err(ReadEnd::Fault));
-    for takes in [0, 2] {
-        let mut sink = StdSink::new(Broken { takes });
-        assert_eq!(rt; write_all(&mut sink, b"abc"), Err(Failed));
-    }
+fn std_writers_are_carried_over(rt: HostRuntime) -> Result<(), Fail> {
+    let mut held = Vec::new(rt.alloc());
+    assert!(rt; write_all(&mut StdSink::new(&mut held), b"abc") == Ok(()));
+    assert!(rt; held.as_slice() == b"abc".as_slice());
     Ok(())
 }
 
 // A reader and a writer of std that err `errs` times, then take nothing `stalls` times, then give or take three bytes. It
-// counts how often it was asked, and a flush before anything was written errs.
+// counts how often it was asked, and a flush errs before anything was written, and always where the writer is closed.
 #[derive(Drop)]
 struct Shaky {
     errs: u32,
@@ -130,6 +120,7 @@ struct Shaky {
     calls: u32,
     flushes: u32,
     written: bool,
+    closed: bool,
 }
 
 fn failing_first(errs: u32, stalls: u32) -> Shaky {
@@ -139,6 +130,7 @@ fn failing_first(errs: u32, stalls: u32) -> Shaky {
         calls: 0,
         flushes: 0,
         written: false,
+        closed: false,
     }
 }
 
@@ -170,7 +162,7 @@ impl Write for Shaky {
 
     fn flush(&mut self) -> io::Result<()> {
         self.flushes = self.flushes.saturating_add(1);
-        if self.written {
+        if self.written && !self.closed {
             Ok(())
         } else {
             Err(io::Error::from(ErrorKind::BrokenPipe))
@@ -235,17 +227,31 @@ fn a_writer_that_stalls_once_is_not_asked_again(rt: HostRuntime) -> Result<(), F
 }
 
 #[test]
+fn a_flush_that_fails_is_a_fault(rt: HostRuntime) -> Result<(), Fail> {
+    let mut writer = failing_first(0, 0);
+    writer.closed = true;
+    assert!(rt; write_all(&mut StdSink::new(&mut writer), b"abc") == Err(Failed));
+    Ok(())
+}
+
+#[test]
+fn a_reader_that_errs_ends_the_reading(rt: HostRuntime) -> Result<(), Fail> {
+    let mut source = StdSource::new(failing_first(1, 0));
+    assert!(rt; read_all(rt.alloc(), &mut source, 3) == Err(ReadEnd::Fault));
+    Ok(())
+}
+
+#[test]
 fn errors_say_what_happened(rt: HostRuntime) -> Result<(), Fail> {
-    let alloc = rt.alloc();
-    let failed = format!(in alloc; "{}", Failed)?;
-    assert_eq!(rt; failed.as_str(), "a read or a write failed");
+    let failed = format!(in rt.alloc(); "{}", Failed)?;
+    assert!(rt; failed.as_str() == "a read or a write failed");
     for (end, text) in [
         (ReadEnd::TooLong, "the input is too long"),
         (ReadEnd::Fault, "a read failed"),
         (ReadEnd::Memory, "out of memory"),
     ] {
-        let shown = format!(in alloc; "{end}")?;
-        assert_eq!(rt; shown.as_str(), text);
+        let shown = format!(in rt.alloc(); "{end}")?;
+        assert!(rt; shown.as_str() == text);
     }
     Ok(())
 }
