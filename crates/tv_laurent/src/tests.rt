@@ -1,7 +1,8 @@
 //! Values from outside, each call once with ample memory through a bound, and each fault.
 //! What the contracts say is not tried again.
 
-ghost use Rattle.std.specs.Prelude.{◌≡◌};
+ghost use Rattle.std.specs.Prelude.{◌≡◌, ◌≤◌, IsTrue, unsigned_abs};
+ghost use Rattle.tv_laws_series.specs.Terms.{upto};
 ghost use Rattle.tv_laurent.specs.QuotientCalls.{QuotientReaches};
 
 use crate::{Coefficient, LPoly, Series, SeriesFault};
@@ -30,21 +31,19 @@ fn series_of(alloc: Global, low: i64, numbers: &[i128]) -> Result<Series<Whole>,
     }
 }
 
+// Whether the series begins and ends at small exponents.
+fn is_small(series: &Series<Whole>) -> bool
+    ensures low { IsTrue result → unsigned_abs series.now.low ≤ 99 }
+    ensures upto { IsTrue result → unsigned_abs (upto series.now) ≤ 99 }
+{
+    let low = series.low();
+    let upto = series.upto();
+    -99 <= low && low <= 99 && -99 <= upto && upto <= 99
+}
+
 // The product, where all exponents are small.
 fn product(a: &Series<Whole>, b: &Series<Whole>) -> Result<Series<Whole>, SeriesFault> {
-    let low = a.low();
-    let upto = a.upto();
-    let other_low = b.low();
-    let other_upto = b.upto();
-    if -99 <= low
-        && low <= 99
-        && -99 <= other_low
-        && other_low <= 99
-        && -99 <= upto
-        && upto <= 99
-        && -99 <= other_upto
-        && other_upto <= 99
-    {
+    if is_small(a) && is_small(b) {
         a.mul(b)
     } else {
         Err(SeriesFault::Memory)
@@ -53,9 +52,8 @@ fn product(a: &Series<Whole>, b: &Series<Whole>) -> Result<Series<Whole>, Series
 
 // The same coefficients, from `low` on.
 fn moved_to(series: Series<Whole>, low: i64) -> Result<Series<Whole>, Fail> {
-    let from = series.low();
-    let upto = series.upto();
-    if -99 <= from && from <= 99 && -99 <= upto && upto <= 99 && -99 <= low && low <= 99 {
+    if is_small(&series) && -99 <= low && low <= 99 {
+        let from = series.low();
         Ok(series.shift(low - from))
     } else {
         Err("small".into())
@@ -81,40 +79,75 @@ fn shows(series: &Series<Whole>, low: i64, numbers: &[i128]) -> bool {
 }
 
 #[test]
-fn series(rt: HostRuntime) -> Result<(), Fail> {
+fn products(rt: HostRuntime) -> Result<(), Fail> {
     let a = series_of(rt.alloc(), 0, &[1, -1, 0, 0])?;
     let b = series_of(rt.alloc(), 0, &[1, 1, 1, 1])?;
     let one = product(&a, &b)?;
-    assert!(rt; shows(&one, 0, &[1, 0, 0, 0]));
     one.known();
-    assert_eq!(rt; one.upto(), 3);
-    assert!(rt; shows(&one.add(&one)?, 0, &[2, 0, 0, 0]));
-    assert!(rt; shows(&one.scale(&whole(3)?)?, 0, &[3, 0, 0, 0]));
-    let c = series_of(rt.alloc(), 2, &[1, 0, 0])?;
-    let moved = product(&c, &b)?;
-    assert!(rt; shows(&moved, 2, &[1, 1, 1]));
-    assert_eq!(rt; moved.upto(), 4);
-    assert!(rt; shows(&c.add(&b)?, 0, &[1, 1, 2, 1]));
-    assert!(rt; shows(&moved_to(moved, -2)?.cut(-1), -2, &[1, 1]));
-    let mut short = c.copy()?;
-    short.truncate(3);
-    assert!(rt; shows(&short, 2, &[1, 0]));
-    assert!(rt; shows(&c.cut(-2), -1, &[]));
+    assert!(rt; one.upto() == 3 && shows(&one, 0, &[1, 0, 0, 0]));
     Ok(())
 }
 
 #[test]
-fn wide_series(rt: HostRuntime) -> Result<(), Fail> {
+fn sums_and_multiples(rt: HostRuntime) -> Result<(), Fail> {
+    let ones = series_of(rt.alloc(), 0, &[1, 1, 1, 1])?;
+    let later = series_of(rt.alloc(), 2, &[1, 0, 0])?;
+    assert!(rt; shows(&later.add(&ones)?, 0, &[1, 1, 2, 1]));
+    assert!(rt; shows(&later.scale(&whole(3)?)?, 2, &[3, 0, 0]));
+    Ok(())
+}
+
+#[test]
+fn shifts(rt: HostRuntime) -> Result<(), Fail> {
+    let ones = series_of(rt.alloc(), 0, &[1, 1, 1, 1])?;
+    let later = series_of(rt.alloc(), 2, &[1, 0, 0])?;
+    let moved = product(&later, &ones)?;
+    assert!(rt; moved.upto() == 4 && shows(&moved, 2, &[1, 1, 1]));
+    assert!(rt; shows(&moved_to(moved, -2)?, -2, &[1, 1, 1]));
+    Ok(())
+}
+
+#[test]
+fn copies_and_cuts(rt: HostRuntime) -> Result<(), Fail> {
+    let later = series_of(rt.alloc(), 2, &[1, 0, 0])?;
+    let mut short = later.copy()?;
+    short.truncate(3);
+    assert!(rt; shows(&short, 2, &[1, 0]));
+    assert!(rt; shows(&later.cut(-2), -1, &[]));
+    Ok(())
+}
+
+// The exponent at which the answer is too wide.
+fn wide_at(answer: Result<Series<Whole>, SeriesFault>) -> Option<i64> {
+    match answer {
+        Err(SeriesFault::Wide(n)) => Some(n),
+        _ => None,
+    }
+}
+
+#[test]
+fn wide_sums(rt: HostRuntime) -> Result<(), Fail> {
     let ones = series_of(rt.alloc(), -1, &[1, 1])?;
     let most = series_of(rt.alloc(), -1, &[0, i128::MAX])?;
-    let two = series_of(rt.alloc(), 0, &[2, 0])?;
-    assert_eq!(rt; ones.add(&most).err(), Some(SeriesFault::Wide(0)));
-    let half = series_of(rt.alloc(), -1, &[0, HALF])?;
-    assert_eq!(rt; half.scale(&whole(2)?).err(), Some(SeriesFault::Wide(0)));
-    assert_eq!(rt; product(&half, &two).err(), Some(SeriesFault::Wide(0)));
-    let halves = series_of(rt.alloc(), -1, &[HALF, HALF])?;
-    assert_eq!(rt; product(&ones, &halves).err(), Some(SeriesFault::Wide(-1)));
+    assert!(rt; wide_at(ones.add(&most)) == Some(0));
     assert!(rt; shows(&product(&ones, &most)?, -2, &[0, i128::MAX]));
+    Ok(())
+}
+
+#[test]
+fn wide_multiples(rt: HostRuntime) -> Result<(), Fail> {
+    let half = series_of(rt.alloc(), -1, &[0, HALF])?;
+    let two = series_of(rt.alloc(), 0, &[2, 0])?;
+    assert!(rt; wide_at(half.scale(&whole(2)?)) == Some(0));
+    assert!(rt; wide_at(product(&half, &two)) == Some(0));
+    Ok(())
+}
+
+#[test]
+fn wide_products(rt: HostRuntime) -> Result<(), Fail> {
+    let ones = series_of(rt.alloc(), -1, &[1, 1])?;
+    let halves = series_of(rt.alloc(), -1, &[HALF, HALF])?;
+    assert!(rt; wide_at(product(&ones, &halves)) == Some(-1));
     Ok(())
 }
 
@@ -129,20 +162,42 @@ fn quotient<C: Ring>(a: &Series<C>, b: &Series<C>, one: &C) -> Result<Series<C>,
     }
 }
 
+// Whether the series of these numbers, the first at `low`, by that of the others, from 0 on, has these coefficients.
+fn divides(
+    alloc: Global,
+    low: i64,
+    dividend: &[i128],
+    divisor: &[i128],
+    want: &[i128],
+) -> Result<bool, Fail> {
+    let one = Whole::one(alloc)?;
+    let a = series_of(alloc, low, dividend)?;
+    let b = series_of(alloc, 0, divisor)?;
+    let found = quotient(&a, &b, &one)?;
+    Ok(shows(&found, low, want))
+}
+
 #[test]
 fn quotients(rt: HostRuntime) -> Result<(), Fail> {
-    let one = Whole::one(rt.alloc())?;
-    let a = series_of(rt.alloc(), 0, &[1, 0, 0, 0])?;
-    let b = series_of(rt.alloc(), 0, &[1, -1, 0, 0])?;
-    assert!(rt; shows(&quotient(&a, &b, &one)?, 0, &[1, 1, 1, 1]));
-    let square = series_of(rt.alloc(), 0, &[1, -2, 7, -18, 47])?;
-    let root = series_of(rt.alloc(), 0, &[1, -1, 3, -6, 13])?;
-    assert!(rt; shows(&quotient(&square, &root, &one)?, 0, &[1, -1, 3, -6, 13]));
-    let lower = series_of(rt.alloc(), -1, &[1, 0, 0, 0])?;
-    assert!(rt; shows(&quotient(&lower, &root.cut(2), &one)?, -1, &[1, 1, -2]));
-    let most = series_of(rt.alloc(), -1, &[1, i128::MAX])?;
-    assert_eq!(rt; quotient(&most, &b, &one).err(), Some(SeriesFault::Wide(0)));
+    let root = [1, -1, 3, -6, 13];
+    assert!(rt; divides(rt.alloc(), 0, &[1, 0, 0, 0], &[1, -1, 0, 0], &[1, 1, 1, 1])?);
+    assert!(rt; divides(rt.alloc(), 0, &[1, -2, 7, -18, 47], &root, &root)?);
+    assert!(rt; divides(rt.alloc(), -1, &[1, 0, 0, 0], &[1, -1, 3], &[1, 1, -2])?);
     Ok(())
+}
+
+#[test]
+fn wide_quotients(rt: HostRuntime) -> Result<(), Fail> {
+    let one = Whole::one(rt.alloc())?;
+    let most = series_of(rt.alloc(), -1, &[1, i128::MAX])?;
+    let b = series_of(rt.alloc(), 0, &[1, -1, 0, 0])?;
+    assert!(rt; wide_at(quotient(&most, &b, &one)) == Some(0));
+    Ok(())
+}
+
+// Whether the coefficient at n is this remainder.
+fn has_remainder(series: &Series<Residue<7>>, n: i64, want: u64) -> bool {
+    matches!(series.coefficient(n), Coefficient::Is(residue) if residue.get() == want)
 }
 
 #[test]
@@ -152,25 +207,9 @@ fn quotients_of_remainders(rt: HostRuntime) -> Result<(), Fail> {
     let a = Series::new(0, vec![in rt.alloc(); one, zero, zero]?);
     let b = Series::new(0, vec![in rt.alloc(); one, one, zero]?);
     let alternating = quotient(&a, &b, &one)?;
-    match (
-        alternating.coefficient(0),
-        alternating.coefficient(1),
-        alternating.coefficient(2),
-        alternating.coefficient(3),
-    ) {
-        (
-            Coefficient::Is(first),
-            Coefficient::Is(second),
-            Coefficient::Is(third),
-            Coefficient::Beyond,
-        ) => {
-            assert_eq!(rt; first.get(), 1);
-            assert_eq!(rt; second.get(), 6);
-            assert_eq!(rt; third.get(), 1);
-            Ok(())
-        }
-        _ => Err("known through 2".into()),
-    }
+    assert!(rt; has_remainder(&alternating, 0, 1) && has_remainder(&alternating, 1, 6));
+    assert!(rt; has_remainder(&alternating, 2, 1) && alternating.upto() == 2);
+    Ok(())
 }
 
 const FAR: i64 = 1000000000000;
@@ -222,20 +261,41 @@ fn polynomials(rt: HostRuntime) -> Result<(), Fail> {
     let x = term(rt.alloc(), 1, whole(1)?)?;
     let squares = difference_of_squares(&one, &x)?;
     assert!(rt; spells(&squares, 0, &[1, 0, -1]));
-    assert_eq!(rt; squares.span(), Some((0, 2)));
-    assert_eq!(rt; squares.reach(), 2);
+    assert!(rt; squares.span() == Some((0, 2)) && squares.reach() == 2);
     assert!(rt; squares.same(&squares.copy()?) && !squares.same(&x));
-    let zero = squares.add(&squares.neg()?)?;
-    zero.known();
-    assert_eq!(rt; zero.span(), None);
-    assert!(rt; zero.same(&LPoly::zero(rt.alloc())?));
+    Ok(())
+}
+
+#[test]
+fn polynomials_that_are_zero(rt: HostRuntime) -> Result<(), Fail> {
     let far = term(rt.alloc(), FAR, whole(1)?)?;
-    assert!(rt; far.add(&zero)?.same(&far) && zero.add(&far)?.same(&far));
+    let zero = far.add(&far.neg()?)?;
+    zero.known();
+    assert!(rt; zero.span().is_none() && zero.same(&LPoly::zero(rt.alloc())?));
+    assert!(rt; far.add(&zero)?.same(&far));
+    assert!(rt; zero.add(&far)?.same(&far));
+    Ok(())
+}
+
+// Whether the answer is too wide.
+fn is_wide(answer: Result<LPoly<Whole>, RingFault>) -> bool {
+    matches!(answer, Err(RingFault::Wide))
+}
+
+#[test]
+fn wide_polynomials(rt: HostRuntime) -> Result<(), Fail> {
     let half = term(rt.alloc(), -3, whole(HALF)?)?;
     let two = term(rt.alloc(), 1, whole(2)?)?;
-    assert_eq!(rt; half.add(&half).err(), Some(RingFault::Wide));
-    assert_eq!(rt; small_product(&half, &two).err(), Some(RingFault::Wide));
+    assert!(rt; is_wide(half.add(&half)) && is_wide(small_product(&half, &two)));
     Ok(())
+}
+
+// Whether the coefficient at n has these coefficients, from `low` on, and no others.
+fn spells_at(polynomial: &LPoly<LPoly<Whole>>, n: i64, low: i64, numbers: &[i128]) -> bool {
+    match polynomial.coefficient(n) {
+        Some(inner) => spells(inner, low, numbers),
+        None => false,
+    }
 }
 
 #[test]
@@ -243,17 +303,9 @@ fn polynomials_over_polynomials(rt: HostRuntime) -> Result<(), Fail> {
     let s = term(rt.alloc(), 0, term(rt.alloc(), 1, whole(1)?)?)?;
     let x = term(rt.alloc(), 1, LPoly::<Whole>::one(rt.alloc())?)?;
     let squares = difference_of_squares(&s, &x)?;
-    assert_eq!(rt; squares.span(), Some((0, 2)));
-    assert!(rt; spells(squares.coefficient(0).ok_or("the square of s")?, 2, &[1]));
-    assert!(rt; spells(squares.coefficient(1).ok_or("nothing")?, 0, &[]));
-    assert!(rt;
-        spells(
-            squares.coefficient(2).ok_or("less the square of X")?,
-            0,
-            &[-1]
-        )
-    );
-    assert_eq!(rt; squares.reach(), 2);
+    assert!(rt; squares.span() == Some((0, 2)) && squares.reach() == 2);
+    assert!(rt; spells_at(&squares, 0, 2, &[1]) && spells_at(&squares, 1, 0, &[]));
+    assert!(rt; spells_at(&squares, 2, 0, &[-1]));
     Ok(())
 }
 
