@@ -25,7 +25,9 @@ abbrev pub same : Cell → Cell → Bool
 same c d = nat_eq c.x d.x && (nat_eq c.y d.y && nat_eq c.z d.z)
 
 abbrev pub precedes : Cell → Cell → Bool
-precedes c d = nat_lt (c.y + d.x) (d.y + c.x) || (nat_eq (c.y + d.x) (d.y + c.x) && (nat_lt c.x d.x || (nat_eq c.x d.x && nat_lt c.z d.z)))
+precedes c d =
+    nat_lt (c.y + d.x) (d.y + c.x)
+    || (nat_eq (c.y + d.x) (d.y + c.x) && (nat_lt c.x d.x || (nat_eq c.x d.x && nat_lt c.z d.z)))
 
 abbrev pub rises : List Cell → Bool
 rises [] = true

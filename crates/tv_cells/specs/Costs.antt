@@ -33,7 +33,10 @@ overlaps legs [] = 0
 overlaps legs (c ∷ cells) = (legs_at legs c - 1) + overlaps legs cells
 
 abbrev pub column_cost : Legs → ℕ → ℕ → ℕ
-column_cost legs x y = cond (has legs.along_z x y) (slice_index legs.along_x y + slice_index legs.along_y x) (min (slice_index legs.along_x y) (slice_index legs.along_y x))
+column_cost legs x y =
+    cond (has legs.along_z x y)
+      (slice_index legs.along_x y + slice_index legs.along_y x)
+      (min (slice_index legs.along_x y) (slice_index legs.along_y x))
 
 -- a cell in two legs has all entries below the extent
 unfoldable pub overlap_cost : Legs → ℕ

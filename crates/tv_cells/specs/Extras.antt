@@ -28,7 +28,11 @@ abbrev pub in_union : Legs → List Cell → Cell → Bool
 in_union legs cells c = nat_lt 0 (legs_at legs c) || list_any (same c) cells
 
 abbrev pub stands : Legs → List Cell → Cell → Bool
-stands legs cells c = nat_eq (legs_at legs c) 0 && ((nat_eq c.x 0 || in_union legs cells (cell (c.x - 1) c.y c.z)) && ((nat_eq c.y 0 || in_union legs cells (cell c.x (c.y - 1) c.z)) && (nat_eq c.z 0 || in_union legs cells (cell c.x c.y (c.z - 1)))))
+stands legs cells c =
+    nat_eq (legs_at legs c) 0
+    && ((nat_eq c.x 0 || in_union legs cells (cell (c.x - 1) c.y c.z))
+    && ((nat_eq c.y 0 || in_union legs cells (cell c.x (c.y - 1) c.z))
+    && (nat_eq c.z 0 || in_union legs cells (cell c.x c.y (c.z - 1)))))
 
 abbrev pub is_extras : Legs → List Cell → Bool
 is_extras legs cells = list_all (stands legs cells) cells

@@ -64,7 +64,8 @@ down_from (suc n) = suc n ∷ down_from n
 unfoldable pub diagrams_within : ℕ → ℕ → ℕ → List (List ℕ)
 diagrams_within k top zero = [] ∷ []
 diagrams_within zero top (suc n) = []
-diagrams_within (suc k) top (suc n) = flat_map (λ row. map (λ rows. row ∷ rows) (diagrams_within k row (suc n - row))) (down_from (min top (suc n)))
+diagrams_within (suc k) top (suc n) =
+    flat_map (λ row. map (λ rows. row ∷ rows) (diagrams_within k row (suc n - row))) (down_from (min top (suc n)))
 
 unfoldable pub diagrams : ℕ → List (List ℕ)
 diagrams n = diagrams_within n n n

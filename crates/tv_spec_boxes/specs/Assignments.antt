@@ -54,7 +54,11 @@ rows_at a fixed (Compact k) = slice_index_or a k []
 rows_at a fixed (Outer k) = slice_index_or fixed k []
 
 abbrev pub legs_of : Assignment → List Rows → Corner → Legs
-legs_of a fixed c = record { along_x = rows_at a fixed c.along_x; along_y = rows_at a fixed c.along_y; along_z = rows_at a fixed c.along_z }
+legs_of a fixed c = record {
+  along_x = rows_at a fixed c.along_x;
+  along_y = rows_at a fixed c.along_y;
+  along_z = rows_at a fixed c.along_z;
+}
 
 abbrev pub all_legs : Web → Assignment → List Rows → List Legs
 all_legs w a fixed = map (legs_of a fixed) (corners w)
@@ -67,7 +71,8 @@ abbrev pub times : ℕ → List ℤ → List ℤ
 times n v = map (λ x. pos n *ℤ x) v
 
 -- one fold for sums of numbers and of vectors, each with its own addition and zero
-abbrev pub over_edges : {B : Type 0} → (B → B → B) → B → (CompactEdge → Rows → B) → List CompactEdge → Assignment → B
+abbrev pub over_edges : {B : Type 0} → (B → B → B) → B → (CompactEdge → Rows → B)
+    → List CompactEdge → Assignment → B
 over_edges add none f [] a = none
 over_edges add none f (e ∷ es) [] = none
 over_edges add none f (e ∷ es) (d ∷ a) = add (f e d) (over_edges add none f es a)
@@ -102,7 +107,9 @@ overlaps_of legs = sum_of overlap_cost legs
 -- one diagram for each degree, with sizes times degrees adding up to at most d
 unfoldable pub choices : List ℕ → ℕ → List Assignment
 choices [] d = [] ∷ []
-choices (g ∷ gs) d = flat_map (λ n. flat_map (λ rows. map (λ a. rows ∷ a) (choices gs (d - (n * g)))) (diagrams n)) (filter (λ n. nat_le (n * g) d) (below (suc d)))
+choices (g ∷ gs) d =
+    flat_map (λ n. flat_map (λ rows. map (λ a. rows ∷ a) (choices gs (d - (n * g)))) (diagrams n))
+      (filter (λ n. nat_le (n * g) d) (below (suc d)))
 
 unfoldable pub assignments : Web → ℕ → List Assignment
 assignments w d = choices (map (λ e. as_natural (edge_degree w e)) (compact w)) d

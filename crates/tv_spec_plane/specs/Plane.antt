@@ -37,7 +37,9 @@ Segment = ℕ × ℕ
 -- on the line, and the way from k to a and the way from k to b are opposite
 pub record IsBetween (ps : List Point) (a b k : ℕ) : Type 0 where
   pub on_line : turn (at ps a) (at ps b) (at ps k) ≡ pos 0
-  pub inside : ((((at ps a).x -ℤ (at ps k).x) *ℤ ((at ps b).x -ℤ (at ps k).x)) +ℤ (((at ps a).y -ℤ (at ps k).y) *ℤ ((at ps b).y -ℤ (at ps k).y))) <ℤ pos 0
+  pub inside :
+      ((((at ps a).x -ℤ (at ps k).x) *ℤ ((at ps b).x -ℤ (at ps k).x))
+      +ℤ (((at ps a).y -ℤ (at ps k).y) *ℤ ((at ps b).y -ℤ (at ps k).y))) <ℤ pos 0
 
 pub record IsHullSegment (ps : List Point) (a b : ℕ) : Type 0 where
   pub first_listed : a < length ps

@@ -58,4 +58,5 @@ pub record IsInOnly (ps : List Point) (ts : List Triple) (p : Rational) (i : ℕ
 
 pub record Tiles (ps : List Point) (ts : List Triple) : Type 0 where
   pub covered : (p : Rational) → IsGeneric ps p → IsInHull ps p → (i : ℕ) × IsInOnly ps ts p i
-  pub within : (p : Rational) → IsGeneric ps p → (i : ℕ) → i < length ts → IsInTriangle ps (triangle_at ts i) p → IsInHull ps p
+  pub within : (p : Rational) → IsGeneric ps p → (i : ℕ) → i < length ts
+      → IsInTriangle ps (triangle_at ts i) p → IsInHull ps p

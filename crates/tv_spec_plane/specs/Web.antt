@@ -65,10 +65,14 @@ owners w a b = filter (λ t. has (triangle_at w.triangles t) a && has (triangle_
 
 -- with the opposite points in rising order
 abbrev pub compact_edge : ℕ → ℕ → ℕ → ℕ → ℕ → ℕ → CompactEdge
-compact_edge a b c t d u = cond (nat_lt c d) (record { a = a; b = b; c = c; d = d; corner_c = t; corner_d = u }) (record { a = a; b = b; c = d; d = c; corner_c = u; corner_d = t })
+compact_edge a b c t d u =
+    cond (nat_lt c d)
+      (record { a = a; b = b; c = c; d = d; corner_c = t; corner_d = u })
+      (record { a = a; b = b; c = d; d = c; corner_c = u; corner_d = t })
 
 abbrev pub compact_by : Web → ℕ → ℕ → List ℕ → Option CompactEdge
-compact_by w a b (t ∷ u ∷ []) = Some (compact_edge a b (opposite (triangle_at w.triangles t) a b) t (opposite (triangle_at w.triangles u) a b) u)
+compact_by w a b (t ∷ u ∷ []) =
+    Some (compact_edge a b (opposite (triangle_at w.triangles t) a b) t (opposite (triangle_at w.triangles u) a b) u)
 compact_by w a b _ = None
 
 abbrev pub outer_by : ℕ → ℕ → List ℕ → Option OuterEdge
@@ -93,14 +97,22 @@ names_outer a b e = nat_eq e.a a && nat_eq e.b b
 unfoldable pub edge_ref : Web → ℕ → ℕ → EdgeRef
 edge_ref w a b =
     let inner = position_or_len (names_compact a b) (compact w) in
-    cond (nat_lt inner (length (compact w))) (Compact inner) (Outer (position_or_len (names_outer a b) (outer w)))
+    cond (nat_lt inner (length (compact w)))
+      (Compact inner)
+      (Outer (position_or_len (names_outer a b) (outer w)))
 
 -- the points of a triangle in rising order
 abbrev pub rising : ℕ → ℕ → ℕ → ℕ × ℕ × ℕ
-rising a b c = cond (nat_lt a b) (cond (nat_lt b c) (a, b, c) (cond (nat_lt a c) (a, c, b) (c, a, b))) (cond (nat_lt a c) (b, a, c) (cond (nat_lt b c) (b, c, a) (c, b, a)))
+rising a b c =
+    cond (nat_lt a b)
+      (cond (nat_lt b c) (a, b, c) (cond (nat_lt a c) (a, c, b) (c, a, b)))
+      (cond (nat_lt a c) (b, a, c) (cond (nat_lt b c) (b, c, a) (c, b, a)))
 
 abbrev pub corner_on : Web → ℕ × ℕ × ℕ → Corner
-corner_on w p = record { x = p.0; y = p.1; z = p.2; along_x = edge_ref w p.1 p.2; along_y = edge_ref w p.0 p.2; along_z = edge_ref w p.0 p.1 }
+corner_on w p = record {
+  x = p.0; y = p.1; z = p.2;
+  along_x = edge_ref w p.1 p.2; along_y = edge_ref w p.0 p.2; along_z = edge_ref w p.0 p.1;
+}
 
 abbrev pub corner_of : Web → Triple → Corner
 corner_of w t = corner_on w (rising t.a t.b t.c)
@@ -110,7 +122,9 @@ corners w = map (corner_of w) w.triangles
 
 -- of c + d - 2 a = r (b - a), with both sides turned against c - a, whose turn against b - a is 1 or -1
 unfoldable pub edge_ratio : Web → CompactEdge → ℤ
-edge_ratio w e = turn (at w.points e.a) (at w.points e.d) (at w.points e.c) *ℤ turn (at w.points e.a) (at w.points e.b) (at w.points e.c)
+edge_ratio w e =
+    turn (at w.points e.a) (at w.points e.d) (at w.points e.c)
+    *ℤ turn (at w.points e.a) (at w.points e.b) (at w.points e.c)
 
 abbrev pub normal_a : Web → CompactEdge → ℤ
 normal_a w e = edge_ratio w e -ℤ pos 2
@@ -119,7 +133,9 @@ abbrev pub normal_b : Web → CompactEdge → ℤ
 normal_b w e = neg_ℤ (edge_ratio w e)
 
 abbrev pub class_entry : Web → CompactEdge → ℕ → ℤ
-class_entry w e k = cond (nat_eq k e.c || nat_eq k e.d) (pos 1) (cond (nat_eq k e.a) (normal_a w e) (cond (nat_eq k e.b) (normal_b w e) (pos 0)))
+class_entry w e k =
+    cond (nat_eq k e.c || nat_eq k e.d) (pos 1)
+      (cond (nat_eq k e.a) (normal_a w e) (cond (nat_eq k e.b) (normal_b w e) (pos 0)))
 
 abbrev pub edge_class : Web → CompactEdge → List ℤ
 edge_class w e = map (class_entry w e) (below (length w.points))

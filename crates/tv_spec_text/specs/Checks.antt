@@ -22,10 +22,20 @@ abbrev pub count_line : Word → ℕ → Line
 count_line word n = word ∷ spelled (pos n) ∷ []
 
 abbrev pub head_lines : Web → List Line
-head_lines w = title_line ∷ count_line (codes "points") (length w.points) ∷ count_line (codes "triangles") (length w.triangles) ∷ count_line (codes "compact") (length (compact w)) ∷ count_line (codes "open") (length (outer w)) ∷ []
+head_lines w =
+    title_line
+    ∷ count_line (codes "points") (length w.points)
+    ∷ count_line (codes "triangles") (length w.triangles)
+    ∷ count_line (codes "compact") (length (compact w))
+    ∷ count_line (codes "open") (length (outer w))
+    ∷ []
 
 abbrev pub edge_words : CompactEdge → ℤ → ℤ → ℤ → Line
-edge_words e m n g = codes "edge" ∷ spelled (pos e.a) ∷ spelled (pos e.b) ∷ codes "opposite" ∷ spelled (pos e.c) ∷ spelled (pos e.d) ∷ codes "normal" ∷ spelled m ∷ spelled n ∷ codes "degree" ∷ spelled g ∷ []
+edge_words e m n g =
+    codes "edge" ∷ spelled (pos e.a) ∷ spelled (pos e.b)
+    ∷ codes "opposite" ∷ spelled (pos e.c) ∷ spelled (pos e.d)
+    ∷ codes "normal" ∷ spelled m ∷ spelled n
+    ∷ codes "degree" ∷ spelled g ∷ []
 
 abbrev pub edge_line : Web → CompactEdge → Line
 edge_line w e = edge_words e (normal_a w e) (normal_b w e) (edge_degree w e)

@@ -28,7 +28,8 @@ abbrev pub end_line : Line
 end_line = codes "end" ∷ []
 
 abbrev pub file_lines : Web → List Line
-file_lines w = first_line ∷ (map point_line w.points ++ (map triangle_line w.triangles ++ (heights_line w.heights ∷ end_line ∷ [])))
+file_lines w =
+    first_line ∷ (map point_line w.points ++ (map triangle_line w.triangles ++ (heights_line w.heights ∷ end_line ∷ [])))
 
 abbrev pub PointFits : Point → Type 0
 PointFits p = IsNumber p.x × IsNumber p.y

@@ -53,7 +53,11 @@ section_lines s = class_line s ∷ map term_line s.terms
 
 abbrev pub series_lines : Word → List ℤ → ℤ → ℤ → List Section → List Line
 series_lines title heights degree upto ss =
-    (codes "report" ∷ codes "series" ∷ title ∷ []) ∷ (codes "heights" ∷ map spelled heights) ∷ (codes "degree" ∷ spelled degree ∷ []) ∷ (codes "upto" ∷ spelled upto ∷ []) ∷ (flat_map section_lines ss ++ ((codes "end" ∷ []) ∷ []))
+    (codes "report" ∷ codes "series" ∷ title ∷ [])
+    ∷ (codes "heights" ∷ map spelled heights)
+    ∷ (codes "degree" ∷ spelled degree ∷ [])
+    ∷ (codes "upto" ∷ spelled upto ∷ [])
+    ∷ (flat_map section_lines ss ++ ((codes "end" ∷ []) ∷ []))
 
 abbrev pub series_text : Word → List ℤ → ℤ → ℤ → List Section → List ℕ
 series_text title heights degree upto ss = text_of (series_lines title heights degree upto ss)

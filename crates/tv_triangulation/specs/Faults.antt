@@ -34,7 +34,8 @@ AreSound ps ts = IsFullSet ps × AreListed ps ts × AreUnit ps ts
 abbrev pub IsMisfit : (ℕ → ℕ → Type 0) → List Triple → FileFault → Type 0
 IsMisfit IsOuter ts (Twice t u) = IsFirstPair (IsTwice ts) t u
 IsMisfit IsOuter ts (Unmatched a b) = NoPair (IsTwice ts) × IsFirstPair (IsUnmatched IsOuter (edges ts)) a b
-IsMisfit IsOuter ts (Bare a b) = NoPair (IsTwice ts) × NoPair (IsUnmatched IsOuter (edges ts)) × IsFirstPair (IsBare IsOuter (edges ts)) a b
+IsMisfit IsOuter ts (Bare a b) =
+    NoPair (IsTwice ts) × NoPair (IsUnmatched IsOuter (edges ts)) × IsFirstPair (IsBare IsOuter (edges ts)) a b
 IsMisfit IsOuter ts _ = ⊥
 
 pub record Fits (IsOuter : ℕ → ℕ → Type 0) (ts : List Triple) : Type 0 where
@@ -46,7 +47,8 @@ abbrev pub IsFirstFault : List Point → List Triple → FileFault → Type 0
 IsFirstFault ps ts (Repeated i j) = IsFirstPair (IsRepeat ps) i j
 IsFirstFault ps ts (Index t) = AreDistinct ps × IsFirstNot (IsListed ps) ts t
 IsFirstFault ps ts Flat = AreDistinct ps × AreListed ps ts × IsFlat ps
-IsFirstFault ps ts (Area t doubled) = IsFullSet ps × AreListed ps ts × IsFirstNot (IsUnit ps) ts t × (doubled ≡ pos (doubled_of ps (triangle_at ts t)))
+IsFirstFault ps ts (Area t doubled) =
+    IsFullSet ps × AreListed ps ts × IsFirstNot (IsUnit ps) ts t × (doubled ≡ pos (doubled_of ps (triangle_at ts t)))
 IsFirstFault ps ts f = AreSound ps ts × IsMisfit (IsHullSegment ps) (turned ps ts) f
 
 abbrev pub IsAnswer : List Point → List Triple → InputError → Type 0
