@@ -8,6 +8,7 @@
 -- overlaps legs cells == the sum over the cells of one less than the number of legs that have it, where any has
 -- overlap_cost legs   == 1 for each cell in exactly two legs, and 2 for each cell in three
 use Rattle.std.specs.Prelude.{ℕ, zero, suc, ◌+◌, ◌-◌, ℤ, pos, ◌+ℤ◌, ◌-ℤ◌, ◌*ℤ◌, min, cond, slice_index, List, [], ◌∷◌}
+use Rattle.tv_lemmas.specs.Sums.{sum_of}
 use Rattle.tv_partition.specs.Rows.{has}
 use Rattle.tv_cells.specs.declared.cell.Cell.{Cell}
 use Rattle.tv_cells.specs.declared.legs.Legs.{Legs}
@@ -29,8 +30,7 @@ edge_cost rows a b = rows_cost a b 0 rows
 
 -- one less than the number of legs that have it, where any has
 unfoldable pub overlaps : Legs → List Cell → ℕ
-overlaps legs [] = 0
-overlaps legs (c ∷ cells) = (legs_at legs c - 1) + overlaps legs cells
+overlaps legs cells = sum_of (λ c. legs_at legs c - 1) cells
 
 abbrev pub column_cost : Legs → ℕ → ℕ → ℕ
 column_cost legs x y =

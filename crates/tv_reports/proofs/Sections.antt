@@ -1,15 +1,16 @@
 -- The terms of a series, and what its section tells.
-use Rattle.std.proofs.Common.{◌≡◌, ◌≢◌, ℕ, suc, ◌+◌, ◌-◌, ◌<◌, ◌≤◌, ℤ, pos, ◌+ℤ◌, ◌≤ℤ◌, ◌<ℤ◌, List, [], ◌∷◌, ◌++◌, length, take, map, Some, Bool, true, false, if◌then◌else◌, inl, inr, refl, sym, ap, ◌∙◌, arith, subst}
+use Rattle.std.proofs.Common.{◌≡◌, ◌≢◌, ℕ, suc, ◌+◌, ◌-◌, ◌<◌, ◌≤◌, ℤ, pos, ◌+ℤ◌, ◌≤ℤ◌, ◌<ℤ◌, List, [], ◌∷◌, ◌++◌, length, take, map, Some, Bool, true, false, if◌then◌else◌, refl, sym, ap, ◌∙◌, arith, subst}
 use Rattle.std.proofs.lemmas.Int.{ints, by_lt_z}
 use Rattle.std.proofs.lemmas.List.{take_more, take_all, length-take-le, map-append}
 use Rattle.std.proofs.lemmas.Option.{slice_get_within, get_or_from_slice_get}
-use Rattle.std.specs.List.{AllByRecursion, slice_get}
+use Rattle.std.specs.List.{AllByRecursion, Contains, slice_get}
 use Rattle.tv_ring.specs.Whole.{wholes, is_zero, IsAny}
 use Rattle.tv_ring.specs.WholeLaws.{whole_laws}
 use Rattle.tv_ring.specs.Sums.{at}
 use Rattle.tv_laws_series.specs.Terms.{Terms, above, upto}
 use Rattle.tv_laws_series.proofs.Exponents.{above_is, above_adds}
-use Rattle.tv_spec_text.specs.Reports.{Term, Section, Rises, IsAmong, IsTerm, AreTerms}
+use Rattle.tv_lemmas.proofs.Members.{contains-head, contains-later}
+use Rattle.tv_spec_text.specs.Reports.{Term, Section, Rises, IsTerm, AreTerms}
 use Rattle.tv_spec_series.specs.Families.{Row, Family, coefficient, IsRow}
 use Rattle.tv_laws_series.proofs.Coefficients.{coefficient_below, coefficient_at}
 use Rattle.tv_reports.specs.Sections.{IsSmallTerm, terms_from, terms_of, section_of, TellsRow, SectionsTell}
@@ -78,15 +79,18 @@ each_is f u low (x ∷ xs) h g =
     let later = each_is f u (low +ℤ pos 1) xs (omega (arith, ints)) (gives_tail f low x xs g) in
     by_term (λ ts. AllByRecursion (IsTerm f u) ts) low x xs (λ _. later) (λ ne. (record { within = omega (arith, ints); value = sym (gives_head f low x xs g); nonzero = ne }, later))
 
-among : (f : ℤ → ℤ) (low : ℤ) (xs : List ℤ) (n : ℤ) → Gives f low xs → low ≤ℤ n → n <ℤ (low +ℤ pos (length xs)) → f n ≢ pos 0 → IsAmong n (terms_from low xs)
+abbrev exponents : List Term → List ℤ
+exponents ts = map (λ (t : Term). t.exponent) ts
+
+among : (f : ℤ → ℤ) (low : ℤ) (xs : List ℤ) (n : ℤ) → Gives f low xs → low ≤ℤ n → n <ℤ (low +ℤ pos (length xs)) → f n ≢ pos 0 → Contains (exponents (terms_from low xs)) n
 among f low [] n g l h ne = absurd (omega (arith, ints))
 among f low (x ∷ xs) n g l h ne = by_lt_z low n
     (λ less.
     let later = among f (low +ℤ pos 1) xs n (gives_tail f low x xs g) (omega (arith, ints)) (omega (arith, ints)) ne in
-    by_term (IsAmong n) low x xs (λ _. later) (λ _. inr later))
+    by_term (λ ts. Contains (exponents ts) n) low x xs (λ _. later) (λ _. contains-later n low (exponents (terms_from (low +ℤ pos 1) xs)) later))
     (λ at_low.
     let same : n ≡ low = omega (arith, ints) in
-    by_term (IsAmong n) low x xs (λ z. absurd (ne (ap f same ∙ gives_head f low x xs g ∙ z))) (λ _. inl (sym same)))
+    by_term (λ ts. Contains (exponents ts) n) low x xs (λ z. absurd (ne (ap f same ∙ gives_head f low x xs g ∙ z))) (λ _. contains-head n low (exponents (terms_from (low +ℤ pos 1) xs)) (sym same)))
 
 gives_coefficients : (t : Terms ℤ) → Gives (coefficient wholes t) t.low t.coefficients
 gives_coefficients t k h =

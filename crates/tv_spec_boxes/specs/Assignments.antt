@@ -73,9 +73,8 @@ times n v = map (λ x. pos n *ℤ x) v
 -- one fold for sums of numbers and of vectors, each with its own addition and zero
 abbrev pub over_edges : {B : Type 0} → (B → B → B) → B → (CompactEdge → Rows → B)
     → List CompactEdge → Assignment → B
-over_edges add none f [] a = none
-over_edges add none f (e ∷ es) [] = none
 over_edges add none f (e ∷ es) (d ∷ a) = add (f e d) (over_edges add none f es a)
+over_edges add none f _ _ = none
 
 abbrev pub sum_on : (CompactEdge → Rows → ℤ) → List CompactEdge → Assignment → ℤ
 sum_on f es a = over_edges ◌+ℤ◌ (pos 0) f es a

@@ -16,9 +16,8 @@ pub record IsClass (w : Web) (d : ℕ) (v : List ℤ) : Type 0 where
   pub same : class_of w witness ≡ v
 
 abbrev pub EntriesBefore : List ℤ → List ℤ → Type 0
-EntriesBefore [] v = ⊥
-EntriesBefore (x ∷ u) [] = ⊥
 EntriesBefore (x ∷ u) (y ∷ v) = (x <ℤ y) ⊎ ((x ≡ y) × EntriesBefore u v)
+EntriesBefore _ _ = ⊥
 
 abbrev pub IsBefore : List ℤ → List ℤ → List ℤ → Type 0
 IsBefore hs u v = (degree_of hs u <ℤ degree_of hs v) ⊎ ((degree_of hs u ≡ degree_of hs v) × EntriesBefore u v)

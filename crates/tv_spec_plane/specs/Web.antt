@@ -141,9 +141,8 @@ abbrev pub edge_class : Web → CompactEdge → List ℤ
 edge_class w e = map (class_entry w e) (below (length w.points))
 
 abbrev pub degree_of : List ℤ → List ℤ → ℤ
-degree_of [] v = pos 0
-degree_of (h ∷ hs) [] = pos 0
 degree_of (h ∷ hs) (x ∷ v) = (h *ℤ x) +ℤ degree_of hs v
+degree_of _ _ = pos 0
 
 abbrev pub edge_degree : Web → CompactEdge → ℤ
 edge_degree w e = degree_of w.heights (edge_class w e)

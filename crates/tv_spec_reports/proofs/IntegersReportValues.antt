@@ -1,7 +1,8 @@
 -- The report of the integers of the conifold through degree 2 says what its series and its integers are.
-use Rattle.std.proofs.Common.{arith, inl, inr}
+use Rattle.std.proofs.Common.{arith}
 use Rattle.std.proofs.lemmas.Int.{ints}
-use Rattle.std.specs.Prelude.{◌≡◌, ◌≢◌, ℕ, zero, suc, ℤ, pos, negsuc, ◌≤ℤ◌, List, [], ◌∷◌, refl}
+use Rattle.std.specs.Prelude.{◌≡◌, ◌≢◌, ℕ, zero, suc, ℤ, pos, negsuc, ◌≤ℤ◌, List, [], ◌∷◌, map, refl}
+use Rattle.std.specs.List.{Contains}
 use Rattle.tv_ring.specs.Sums.{at}
 use Rattle.tv_ring.specs.Whole.{wholes}
 use Rattle.tv_laws_series.specs.Terms.{above}
@@ -13,7 +14,7 @@ use Rattle.tv_spec_katz.specs.Product.{times, product}
 use Rattle.tv_spec_katz.specs.Katz.{Integer, katz}
 use Rattle.tv_spec_katz.specs.Integers.{integers, candidates}
 use Rattle.tv_spec_katz.proofs.Samples.{conifold_heights, conifold_class, conifold_twice, conifold_series}
-use Rattle.tv_spec_text.specs.Reports.{Term, IsAmong, AreTerms}
+use Rattle.tv_spec_text.specs.Reports.{Term, AreTerms}
 use Rattle.tv_spec_reports.specs.IntegerLines.{gv_text}
 use Rattle.tv_spec_reports.specs.IntegersReport.{integers_of, TellsFamily}
 use Rattle.tv_spec_reports.proofs.Values.{term, conifold_sections}
@@ -30,12 +31,12 @@ unfolding cubic integer
 cubic_integers = refl
 
 abbrev Through : List ℤ → List Term → Type 0
-Through v ts = (n : ℤ) → n ≤ℤ pos 5 → coefficient_of wholes conifold_series v n ≢ pos 0 → IsAmong n ts
+Through v ts = (n : ℤ) → n ≤ℤ pos 5 → coefficient_of wholes conifold_series v n ≢ pos 0 → Contains (map (λ (t : Term). t.exponent) ts) n
 
 whole_zero : Through (zeros 4) (term (pos 0) (pos 1) ∷ [])
 unfolding term find coefficient at above
 whole_zero (negsuc n) h d = absurd (d refl)
-whole_zero (pos zero) h d = inl refl
+whole_zero (pos zero) h d = (0, omega arith, refl)
 whole_zero (pos (suc zero)) h d = absurd (d refl)
 whole_zero (pos (suc (suc zero))) h d = absurd (d refl)
 whole_zero (pos (suc (suc (suc zero)))) h d = absurd (d refl)
@@ -51,11 +52,11 @@ whole_curve : Through conifold_class (term (pos 1) (pos 1) ∷ term (pos 2) (neg
 unfolding term find coefficient at above
 whole_curve (negsuc n) h d = absurd (d refl)
 whole_curve (pos zero) h d = absurd (d refl)
-whole_curve (pos (suc zero)) h d = inl refl
-whole_curve (pos (suc (suc zero))) h d = inr (inl refl)
-whole_curve (pos (suc (suc (suc zero)))) h d = inr (inr (inl refl))
-whole_curve (pos (suc (suc (suc (suc zero))))) h d = inr (inr (inr (inl refl)))
-whole_curve (pos (suc (suc (suc (suc (suc zero)))))) h d = inr (inr (inr (inr (inl refl))))
+whole_curve (pos (suc zero)) h d = (0, omega arith, refl)
+whole_curve (pos (suc (suc zero))) h d = (1, omega arith, refl)
+whole_curve (pos (suc (suc (suc zero)))) h d = (2, omega arith, refl)
+whole_curve (pos (suc (suc (suc (suc zero))))) h d = (3, omega arith, refl)
+whole_curve (pos (suc (suc (suc (suc (suc zero)))))) h d = (4, omega arith, refl)
 whole_curve (pos (suc (suc (suc (suc (suc (suc n))))))) h d = absurd (omega (arith, ints))
 
 curve_terms : AreTerms (coefficient_of wholes conifold_series conifold_class) (pos 5) (term (pos 1) (pos 1) ∷ term (pos 2) (negsuc 1) ∷ term (pos 3) (pos 3) ∷ term (pos 4) (negsuc 3) ∷ term (pos 5) (pos 5) ∷ [])
@@ -68,9 +69,9 @@ whole_twice (negsuc n) h d = absurd (d refl)
 whole_twice (pos zero) h d = absurd (d refl)
 whole_twice (pos (suc zero)) h d = absurd (d refl)
 whole_twice (pos (suc (suc zero))) h d = absurd (d refl)
-whole_twice (pos (suc (suc (suc zero)))) h d = inl refl
-whole_twice (pos (suc (suc (suc (suc zero))))) h d = inr (inl refl)
-whole_twice (pos (suc (suc (suc (suc (suc zero)))))) h d = inr (inr (inl refl))
+whole_twice (pos (suc (suc (suc zero)))) h d = (0, omega arith, refl)
+whole_twice (pos (suc (suc (suc (suc zero))))) h d = (1, omega arith, refl)
+whole_twice (pos (suc (suc (suc (suc (suc zero)))))) h d = (2, omega arith, refl)
 whole_twice (pos (suc (suc (suc (suc (suc (suc n))))))) h d = absurd (omega (arith, ints))
 
 twice_terms : AreTerms (coefficient_of wholes conifold_series conifold_twice) (pos 5) (term (pos 3) (negsuc 1) ∷ term (pos 4) (pos 4) ∷ term (pos 5) (negsuc 9) ∷ [])

@@ -3,15 +3,14 @@
 -- Term            == an exponent and its coefficient
 -- Section         == a class by its degree and entries, and the terms of its series
 -- Rises ts        == exponents rise
--- IsAmong n ts    == some term has the exponent n
 -- IsTerm f upto t == the exponent is at most upto, and the coefficient is the value of f there, and not 0
 -- AreTerms f upto ts == the exponents through upto at which f isn't 0, rising, each with the value of f
 -- term_line t, class_line s == the line of a term, of a class
 -- section_lines s == a line for the class and a line for each term
 -- series_lines title heights degree upto ss == the lines of the report whose first line is `report series TITLE`
 -- series_text     == the text of those lines
-use Rattle.std.specs.Prelude.{◌≡◌, ◌≢◌, ◌⊎◌, ℕ, ℤ, pos, ◌≤ℤ◌, ◌<ℤ◌, List, [], ◌∷◌, ◌++◌, map, codes, ⊤}
-use Rattle.std.specs.List.{flat_map, AllByRecursion}
+use Rattle.std.specs.Prelude.{◌≡◌, ◌≢◌, ℕ, ℤ, pos, ◌≤ℤ◌, ◌<ℤ◌, List, [], ◌∷◌, ◌++◌, map, codes, ⊤}
+use Rattle.std.specs.List.{flat_map, AllByRecursion, Contains}
 use Rattle.tv_spec_text.specs.Lines.{Word, Line, text_of, spelled}
 
 pub record Term : Type 0 where
@@ -28,10 +27,6 @@ Rises [] = ⊤
 Rises (t ∷ []) = ⊤
 Rises (t ∷ u ∷ ts) = (t.exponent <ℤ u.exponent) × Rises (u ∷ ts)
 
-abbrev pub IsAmong : ℤ → List Term → Type 0
-IsAmong n [] = ⊥
-IsAmong n (t ∷ ts) = (t.exponent ≡ n) ⊎ IsAmong n ts
-
 pub record IsTerm (f : ℤ → ℤ) (upto : ℤ) (t : Term) : Type 0 where
   pub within : t.exponent ≤ℤ upto
   pub value : t.coefficient ≡ f t.exponent
@@ -40,7 +35,7 @@ pub record IsTerm (f : ℤ → ℤ) (upto : ℤ) (t : Term) : Type 0 where
 pub record AreTerms (f : ℤ → ℤ) (upto : ℤ) (ts : List Term) : Type 0 where
   pub rises : Rises ts
   pub each : AllByRecursion (IsTerm f upto) ts
-  pub whole : (n : ℤ) → n ≤ℤ upto → f n ≢ pos 0 → IsAmong n ts
+  pub whole : (n : ℤ) → n ≤ℤ upto → f n ≢ pos 0 → Contains (map (λ (t : Term). t.exponent) ts) n
 
 abbrev pub term_line : Term → Line
 term_line t = codes "term" ∷ spelled t.exponent ∷ spelled t.coefficient ∷ []
