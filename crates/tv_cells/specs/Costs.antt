@@ -35,8 +35,8 @@ overlaps legs cells = sum_of (λ c. legs_at legs c - 1) cells
 abbrev pub column_cost : Legs → ℕ → ℕ → ℕ
 column_cost legs x y =
     cond (has legs.along_z x y)
-      (slice_index legs.along_x y + slice_index legs.along_y x)
-      (min (slice_index legs.along_x y) (slice_index legs.along_y x))
+    (slice_index legs.along_x y + slice_index legs.along_y x)
+    (min (slice_index legs.along_x y) (slice_index legs.along_y x))
 
 -- a cell in two legs has all entries below the extent
 unfoldable pub overlap_cost : Legs → ℕ

@@ -108,7 +108,7 @@ unfoldable pub choices : List ℕ → ℕ → List Assignment
 choices [] d = [] ∷ []
 choices (g ∷ gs) d =
     flat_map (λ n. flat_map (λ rows. map (λ a. rows ∷ a) (choices gs (d - (n * g)))) (diagrams n))
-      (filter (λ n. nat_le (n * g) d) (below (suc d)))
+    (filter (λ n. nat_le (n * g) d) (below (suc d)))
 
 unfoldable pub assignments : Web → ℕ → List Assignment
 assignments w d = choices (map (λ e. as_natural (edge_degree w e)) (compact w)) d

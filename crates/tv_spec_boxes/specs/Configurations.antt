@@ -36,7 +36,7 @@ unfoldable pub fillings : List Legs → ℕ → ℕ → List (List (List Cell))
 fillings [] side n = cond (nat_eq n 0) ([] ∷ []) []
 fillings (legs ∷ rest) side n =
     flat_map (λ i. flat_map (λ cells. map (λ others. cells ∷ others) (fillings rest side (n - i))) (extras_of legs side i))
-      (below (suc n))
+    (below (suc n))
 
 abbrev pub fillings_of : List Legs → ℤ → List (List (List Cell))
 fillings_of legs (pos n) = fillings legs n n

@@ -67,8 +67,8 @@ owners w a b = filter (λ t. has (triangle_at w.triangles t) a && has (triangle_
 abbrev pub compact_edge : ℕ → ℕ → ℕ → ℕ → ℕ → ℕ → CompactEdge
 compact_edge a b c t d u =
     cond (nat_lt c d)
-      (record { a = a; b = b; c = c; d = d; corner_c = t; corner_d = u })
-      (record { a = a; b = b; c = d; d = c; corner_c = u; corner_d = t })
+    (record { a = a; b = b; c = c; d = d; corner_c = t; corner_d = u })
+    (record { a = a; b = b; c = d; d = c; corner_c = u; corner_d = t })
 
 abbrev pub compact_by : Web → ℕ → ℕ → List ℕ → Option CompactEdge
 compact_by w a b (t ∷ u ∷ []) =
@@ -98,20 +98,24 @@ unfoldable pub edge_ref : Web → ℕ → ℕ → EdgeRef
 edge_ref w a b =
     let inner = position_or_len (names_compact a b) (compact w) in
     cond (nat_lt inner (length (compact w)))
-      (Compact inner)
-      (Outer (position_or_len (names_outer a b) (outer w)))
+    (Compact inner)
+    (Outer (position_or_len (names_outer a b) (outer w)))
 
 -- the points of a triangle in rising order
 abbrev pub rising : ℕ → ℕ → ℕ → ℕ × ℕ × ℕ
 rising a b c =
     cond (nat_lt a b)
-      (cond (nat_lt b c) (a, b, c) (cond (nat_lt a c) (a, c, b) (c, a, b)))
-      (cond (nat_lt a c) (b, a, c) (cond (nat_lt b c) (b, c, a) (c, b, a)))
+    (cond (nat_lt b c) (a, b, c) (cond (nat_lt a c) (a, c, b) (c, a, b)))
+    (cond (nat_lt a c) (b, a, c) (cond (nat_lt b c) (b, c, a) (c, b, a)))
 
 abbrev pub corner_on : Web → ℕ × ℕ × ℕ → Corner
 corner_on w p = record {
-  x = p.0; y = p.1; z = p.2;
-  along_x = edge_ref w p.1 p.2; along_y = edge_ref w p.0 p.2; along_z = edge_ref w p.0 p.1;
+  x = p.0;
+  y = p.1;
+  z = p.2;
+  along_x = edge_ref w p.1 p.2;
+  along_y = edge_ref w p.0 p.2;
+  along_z = edge_ref w p.0 p.1;
 }
 
 abbrev pub corner_of : Web → Triple → Corner
@@ -135,7 +139,7 @@ normal_b w e = neg_ℤ (edge_ratio w e)
 abbrev pub class_entry : Web → CompactEdge → ℕ → ℤ
 class_entry w e k =
     cond (nat_eq k e.c || nat_eq k e.d) (pos 1)
-      (cond (nat_eq k e.a) (normal_a w e) (cond (nat_eq k e.b) (normal_b w e) (pos 0)))
+    (cond (nat_eq k e.a) (normal_a w e) (cond (nat_eq k e.b) (normal_b w e) (pos 0)))
 
 abbrev pub edge_class : Web → CompactEdge → List ℤ
 edge_class w e = map (class_entry w e) (below (length w.points))
