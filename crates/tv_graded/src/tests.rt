@@ -75,6 +75,26 @@ fn add<C: Ring>(
     family.add_into(class, series)
 }
 
+// Adds the constant series c at the class of these two entries.
+fn put<C: Ring>(
+    family: &mut Graded<C>,
+    alloc: Global,
+    first: i64,
+    second: i64,
+    c: C,
+) -> Result<(), Fail> {
+    let class = class_of(alloc, first, second)?;
+    let series = constant(alloc, c)?;
+    add(family, class, series)?;
+    Ok(())
+}
+
+// Whether the family has the class of these two entries.
+fn has(family: &Graded<Whole>, alloc: Global, first: i64, second: i64) -> Result<bool, Fail> {
+    let class = class_of(alloc, first, second)?;
+    Ok(family.get(&class).is_some())
+}
+
 // Whether row `k` has this class and degree, and this coefficient at 0.
 fn shows(family: &Graded<Whole>, k: usize, class: &[i64], degree: i64, coefficient: i128) -> bool {
     match family.at(k) {
@@ -90,59 +110,55 @@ fn shows(family: &Graded<Whole>, k: usize, class: &[i64], degree: i64, coefficie
 #[test]
 fn sums_by_class(rt: HostRuntime) -> Result<(), Fail> {
     let mut family = family_of::<Whole>(rt.alloc(), 1, 0, 1)?;
-    assert_eq!(rt; family.len(), 0);
-    add(
-        &mut family,
-        class_of(rt.alloc(), 1, -1)?,
-        constant(rt.alloc(), whole(1)?)?,
-    )?;
-    add(
-        &mut family,
-        class_of(rt.alloc(), 1, -1)?,
-        constant(rt.alloc(), whole(1)?)?,
-    )?;
-    assert_eq!(rt; family.len(), 1);
+    put(&mut family, rt.alloc(), 1, -1, whole(1)?)?;
+    put(&mut family, rt.alloc(), 1, -1, whole(1)?)?;
+    assert!(rt; family.len() == 1 && family.at(1).is_none());
     assert!(rt; shows(&family, 0, &[1, -1], 1, 2));
-    assert!(rt; family.at(1).is_none());
-    assert!(rt; family.get(&class_of(rt.alloc(), 1, -1)?).is_some());
-    assert!(rt; family.get(&class_of(rt.alloc(), 1, 0)?).is_none());
-    assert_eq!(rt; family.top(), 1);
-    assert_eq!(rt; family.upto(), 0);
-    assert_eq!(rt; family.heights().len(), 2);
+    Ok(())
+}
+
+#[test]
+fn finds_classes(rt: HostRuntime) -> Result<(), Fail> {
+    let mut family = family_of::<Whole>(rt.alloc(), 1, 0, 1)?;
+    assert!(rt; family.len() == 0 && family.top() == 1 && family.upto() == 0);
+    put(&mut family, rt.alloc(), 1, -1, whole(1)?)?;
+    assert!(rt; has(&family, rt.alloc(), 1, -1)?);
+    assert!(rt; !has(&family, rt.alloc(), 1, 0)?);
     family.known();
     Ok(())
+}
+
+// Whether the rows have these degrees, in their order.
+fn has_degrees(family: &Graded<Whole>, degrees: &[i64]) -> bool {
+    let mut k = 0;
+    for entry in family.iter() {
+        if degrees.get(k) != Some(&entry.degree) {
+            return false;
+        }
+        k = k.saturating_add(1);
+    }
+    k == degrees.len()
 }
 
 #[test]
 fn sorts_by_degree_then_by_entries(rt: HostRuntime) -> Result<(), Fail> {
     let mut family = family_of::<Whole>(rt.alloc(), 1, 1, 2)?;
     for (first, second) in [(1, 1), (1, 0), (0, 2), (0, 1)] {
-        add(
-            &mut family,
-            class_of(rt.alloc(), first, second)?,
-            constant(rt.alloc(), whole(1)?)?,
-        )?;
+        put(&mut family, rt.alloc(), first, second, whole(1)?)?;
     }
-    assert!(rt; shows(&family, 0, &[0, 1], 1, 1));
-    assert!(rt; shows(&family, 1, &[1, 0], 1, 1));
-    assert!(rt; shows(&family, 2, &[0, 2], 2, 1));
-    assert!(rt; shows(&family, 3, &[1, 1], 2, 1));
-    let mut degrees = Vec::new(rt.alloc());
-    for entry in family.iter() {
-        degrees.push(entry.degree)?;
-    }
-    assert!(rt; degrees.as_slice() == [1, 1, 2, 2].as_slice());
+    assert!(rt; shows(&family, 0, &[0, 1], 1, 1) && shows(&family, 1, &[1, 0], 1, 1));
+    assert!(rt; shows(&family, 2, &[0, 2], 2, 1) && shows(&family, 3, &[1, 1], 2, 1));
+    assert!(rt; has_degrees(&family, &[1, 1, 2, 2]));
     Ok(())
 }
 
 #[test]
 fn tells_a_wide_sum_and_keeps_the_family(rt: HostRuntime) -> Result<(), Fail> {
     let mut family = family_of::<Whole>(rt.alloc(), 1, 0, 1)?;
+    put(&mut family, rt.alloc(), 1, 0, whole(HALF)?)?;
+    let class = class_of(rt.alloc(), 1, 0)?;
     let half = constant(rt.alloc(), whole(HALF)?)?;
-    add(&mut family, class_of(rt.alloc(), 1, 0)?, half)?;
-    let other = constant(rt.alloc(), whole(HALF)?)?;
-    let twice = add(&mut family, class_of(rt.alloc(), 1, 0)?, other);
-    assert_eq!(rt; twice.err(), Some(SeriesFault::Wide(0)));
+    assert!(rt; add(&mut family, class, half).err() == Some(SeriesFault::Wide(0)));
     assert!(rt; shows(&family, 0, &[1, 0], 1, HALF));
     Ok(())
 }
@@ -193,70 +209,82 @@ fn divided(family: &Graded<Whole>, zero: &Series<Whole>) -> Result<Graded<Whole>
     }
 }
 
+// Adds the series of these numbers, from -1 on, at the class of these two entries.
+fn put_from(
+    family: &mut Graded<Whole>,
+    alloc: Global,
+    first: i64,
+    second: i64,
+    list: &[i128],
+) -> Result<(), Fail> {
+    let class = class_of(alloc, first, second)?;
+    let series = numbers(alloc, -1, list)?;
+    add(family, class, series)?;
+    Ok(())
+}
+
 #[test]
 fn quotients_by_class(rt: HostRuntime) -> Result<(), Fail> {
     let mut family = family_of::<Whole>(rt.alloc(), 1, 0, 1)?;
-    let first = numbers(rt.alloc(), -1, &[1, 0])?;
-    add(&mut family, class_of(rt.alloc(), 1, 0)?, first)?;
-    let second = numbers(rt.alloc(), -1, &[2, 5])?;
-    add(&mut family, class_of(rt.alloc(), 1, -1)?, second)?;
-    let quotients = divided(&family, &numbers(rt.alloc(), 0, &[1, -1])?)?;
-    assert_eq!(rt; quotients.len(), 2);
-    assert!(rt; shows(&quotients, 0, &[1, -1], 1, 7));
-    assert!(rt; shows(&quotients, 1, &[1, 0], 1, 1));
-    assert_eq!(rt; quotients.top(), 1);
-    assert_eq!(rt; quotients.upto(), 0);
+    put_from(&mut family, rt.alloc(), 1, 0, &[1, 0])?;
+    put_from(&mut family, rt.alloc(), 1, -1, &[2, 5])?;
+    let zero = numbers(rt.alloc(), 0, &[1, -1])?;
+    let quotients = divided(&family, &zero)?;
+    assert!(rt; quotients.len() == 2 && quotients.top() == 1 && quotients.upto() == 0);
+    assert!(rt; shows(&quotients, 0, &[1, -1], 1, 7) && shows(&quotients, 1, &[1, 0], 1, 1));
     Ok(())
+}
+
+// Whether the first row has this class, this coefficient at -1, and nothing known beyond.
+fn ends_at(family: &Graded<Whole>, class: &[i64], coefficient: i128) -> bool {
+    match family.at(0) {
+        None => false,
+        Some(entry) => {
+            entry.class.entries() == class
+                && matches!(entry.series.coefficient(-1), Coefficient::Is(whole) if whole.get() == coefficient)
+                && matches!(entry.series.coefficient(0), Coefficient::Beyond)
+        }
+    }
 }
 
 #[test]
 fn copies_and_cuts(rt: HostRuntime) -> Result<(), Fail> {
     let mut family = family_of::<Whole>(rt.alloc(), 1, 0, 1)?;
-    let series = numbers(rt.alloc(), -1, &[2, 5])?;
-    add(&mut family, class_of(rt.alloc(), 1, 0)?, series)?;
+    put_from(&mut family, rt.alloc(), 1, 0, &[2, 5])?;
     let copy = family.copy()?;
-    if family.upto() < -1 {
-        return Err("known through 0".into());
-    }
-    let short = family.cut(-1);
-    assert_eq!(rt; short.upto(), -1);
-    let entry = short.at(0).ok_or("the class")?;
-    assert!(rt; entry.class.entries() == [1, 0].as_slice());
-    assert!(rt; matches!(entry.series.coefficient(-1), Coefficient::Is(whole) if whole.get() == 2));
-    assert!(rt; matches!(entry.series.coefficient(0), Coefficient::Beyond));
     assert!(rt; shows(&copy, 0, &[1, 0], 1, 5));
+    assert!(rt; family.upto() >= -1);
+    let short = family.cut(-1);
+    assert!(rt; short.upto() == -1 && ends_at(&short, &[1, 0], 2));
     Ok(())
+}
+
+// Whether the class of a wide quotient has these entries, and the exponent is 0.
+fn names(fault: &GradedFault, entries: &[i64]) -> bool {
+    match fault {
+        GradedFault::Wide { class, exponent } => class.entries() == entries && *exponent == 0,
+        GradedFault::Memory => false,
+    }
 }
 
 #[test]
 fn tells_the_class_of_a_wide_quotient(rt: HostRuntime) -> Result<(), Fail> {
     let mut family = family_of::<Whole>(rt.alloc(), 1, 0, 1)?;
-    let most = numbers(rt.alloc(), -1, &[1, i128::MAX])?;
-    add(&mut family, class_of(rt.alloc(), 1, 0)?, most)?;
-    match divided(&family, &numbers(rt.alloc(), 0, &[1, -1])?) {
-        Err(GradedFault::Wide { class, exponent }) => {
-            assert!(rt; class.entries() == [1, 0].as_slice());
-            assert_eq!(rt; exponent, 0);
-            Ok(())
-        }
-        _ => Err("too wide".into()),
+    put_from(&mut family, rt.alloc(), 1, 0, &[1, i128::MAX])?;
+    let zero = numbers(rt.alloc(), 0, &[1, -1])?;
+    match divided(&family, &zero) {
+        Err(fault) => assert!(rt; names(&fault, &[1, 0])),
+        Ok(_) => return Err("too wide".into()),
     }
+    Ok(())
 }
 
 #[test]
 fn sums_of_residues(rt: HostRuntime) -> Result<(), Fail> {
     let mut family = family_of::<Residue<7>>(rt.alloc(), 1, 0, 1)?;
+    put(&mut family, rt.alloc(), 0, 5, Residue::new(5))?;
+    put(&mut family, rt.alloc(), 0, 5, Residue::new(3))?;
     let class = class_of(rt.alloc(), 0, 5)?;
-    add(
-        &mut family,
-        class_of(rt.alloc(), 0, 5)?,
-        constant(rt.alloc(), Residue::new(5))?,
-    )?;
-    add(
-        &mut family,
-        class_of(rt.alloc(), 0, 5)?,
-        constant(rt.alloc(), Residue::new(3))?,
-    )?;
     let sum = family.get(&class).ok_or("the class")?;
     assert!(rt; matches!(sum.coefficient(0), Coefficient::Is(residue) if residue.get() == 1));
     Ok(())
