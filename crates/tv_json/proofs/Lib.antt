@@ -1,0 +1,3 @@
+mod Arrays
+mod Objects
+pub mod Exact
