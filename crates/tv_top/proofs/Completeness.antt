@@ -39,7 +39,7 @@ use Rattle.tv_top.proofs.Sound.{graded_or_low}
 -- a file that is accepted fails no check
 sound_or_unsound : (w : Web) (f : FileFault) → IsWithinLimits w → IsTiled w.points w.triangles → length w.heights ≡ length w.points → IsGraded (turned_web w) → IsUnsoundBy w f → ⊥
 sound_or_unsound w (HeightCount k) l t h g x = x.2 (x.1 ∙ h)
-sound_or_unsound w (Degree a b d) l t h g x = graded_or_low (turned_web w) x.number a b d g x.low
+sound_or_unsound w (Degree a b d) l t h g x = graded_or_low (turned_web w) x.2.0 a b d g x.2.1
 sound_or_unsound w TooLong l t h g x = tiling_triangles_pass w.points w.triangles TooLong l.coordinates t x
 sound_or_unsound w (Line n) l t h g x = tiling_triangles_pass w.points w.triangles (Line n) l.coordinates t x
 sound_or_unsound w Json l t h g x = tiling_triangles_pass w.points w.triangles Json l.coordinates t x

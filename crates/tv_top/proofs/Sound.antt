@@ -41,7 +41,7 @@ unsound_heights file m k limits h count other = (tiled file m limits h, count, �
 -- the first compact edge of the turned web whose degree is too low is the last check's fault
 unsound_by : (file w : Web) (e : InputError) → IsTiled file.points file.triangles → length file.heights ≡ length file.points → w ≡ turned_web file → IsLowEdge w e → IsUnsound file e
 unsound_by file w Memory t heights same h = tt
-unsound_by file w (Fault (Degree a b d)) t heights same h = record { tiled = t; heights = heights; number = h.0; low = subst (λ v. IsFirstLow v h.0 a b d) same h.1 }
+unsound_by file w (Fault (Degree a b d)) t heights same h = (t, heights, (h.0, subst (λ v. IsFirstLow v h.0 a b d) same h.1))
 unsound_by file w (Fault TooLong) t heights same h = absurd h
 unsound_by file w (Fault (Line n)) t heights same h = absurd h
 unsound_by file w (Fault Json) t heights same h = absurd h

@@ -53,11 +53,9 @@ abbrev pub HasOtherHeights : Web → ℕ → Type 0
 HasOtherHeights w k = IsTiled w.points w.triangles × (k ≡ length w.heights) × (k ≢ length w.points)
 
 -- degrees are looked at last
-pub record HasLowEdge (w : Web) (a b : ℕ) (d : ℤ) : Type 0 where
-  pub tiled : IsTiled w.points w.triangles
-  pub heights : length w.heights ≡ length w.points
-  pub number : ℕ
-  pub low : IsFirstLow (turned_web w) number a b d
+abbrev pub HasLowEdge : Web → ℕ → ℕ → ℤ → Type 0
+HasLowEdge w a b d =
+    IsTiled w.points w.triangles × (length w.heights ≡ length w.points) × ((number : ℕ) × IsFirstLow (turned_web w) number a b d)
 
 abbrev pub IsUnsoundBy : Web → FileFault → Type 0
 IsUnsoundBy w (HeightCount k) = HasOtherHeights w k

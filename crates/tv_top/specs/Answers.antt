@@ -40,7 +40,7 @@ use Rattle.tv_top.specs.Reports.{IsReport, IsWide}
 use Rattle.tv_text.specs.declared.file.TheConstants.{MOST_BYTES}
 use Rattle.tv_top.specs.declared.command.Command.{Command}
 use Rattle.tv_top.specs.declared.status.Status.{Status}
-use Rattle.tv_top.specs.declared.status.Status.TheVariants.{Done, Words, File, Wide, Differs, Memory, ReadFault, WriteFault}
+use Rattle.tv_top.specs.declared.status.Status.TheVariants.{Done, Words, File, Wide, Memory, ReadFault, WriteFault}
 
 pub record Change : Type 0 where
   pub before : Seen
@@ -108,10 +108,9 @@ Deserves ws io Done text = DeservesDone ws io text
 Deserves ws io Words text = DeservesWords ws io text
 Deserves ws io File text = DeservesFile ws io text
 Deserves ws io Wide text = DeservesWide ws io text
-Deserves ws io Differs text = ⊥
 Deserves ws io Memory text = text ≡ memory_text
 Deserves ws io ReadFault text = DeservesRead ws io text
-Deserves ws io WriteFault text = ⊥
+Deserves ws io _ text = ⊥
 
 pub record Told (out : Change) (text : List ℕ) (status result : Status) : Type 0 where
   pub count : ℕ
