@@ -10,8 +10,7 @@ use Rattle.tv_laws_counts.specs.Ways.{IsListed}
 use Rattle.tv_lemmas.proofs.Members.{all-contains, all-members, all-onto}
 use Rattle.tv_laws_counts.proofs.Choices.{degree_by, choices_are, IsChoice}
 use Rattle.tv_laws_counts.proofs.Degrees.{assignments_listed, weights, weights_positive}
-use Rattle.tv_assignment.specs.Terms.{cells_of}
-use Rattle.tv_assignment.specs.Asked.{IsOn}
+use Rattle.tv_assignment.specs.Size.{cells_of, IsOn}
 
 pub listed-one_each : (w : Web) (d : ℕ) (a : Assignment) → IsGraded w → Contains (assignments w d) a → length a ≡ length (compact w)
 listed-one_each w d a graded among = let is = all-contains (IsListed w d) (assignments w d) a (assignments_listed w d graded) among in is.one_each

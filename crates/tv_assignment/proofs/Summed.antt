@@ -12,7 +12,7 @@ use Rattle.tv_spec_plane.specs.declared.records.CompactEdge.{CompactEdge}
 use Rattle.tv_partition.specs.Rows.{size}
 use Rattle.tv_degrees.specs.Edges.{no_edge}
 use Rattle.tv_spec_boxes.specs.Assignments.{Rows, Assignment, sum_on}
-use Rattle.tv_assignment.specs.Terms.{cells_of}
+use Rattle.tv_assignment.specs.Size.{cells_of}
 
 sum-step : (f : CompactEdge → Rows → ℤ) (es : List CompactEdge) (a : Assignment) (k : ℕ) → k < length es → k < length a → sum_on f (drop k es) (drop k a) ≡ f (get_or es k no_edge) (get_or a k []) +ℤ sum_on f (drop (suc k) es) (drop (suc k) a)
 sum-step f [] a k h i = absurd (omega arith)

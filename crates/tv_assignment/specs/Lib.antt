@@ -1,6 +1,3 @@
-pub mod Terms
+pub mod Size
 pub mod Listing
-pub mod Kept
-pub mod Asked
 pub use Rattle.tv_spec_boxes.specs.Assignments
-pub use Rattle.tv_laws_counts.specs.Ways

@@ -6,19 +6,20 @@ ghost use Rattle.tv_partition.specs.Rows.{size};
 ghost use Rattle.tv_cells.specs.Costs.{edge_cost, overlap_cost};
 ghost use Rattle.tv_degrees.specs.Edges.{edge_at};
 ghost use Rattle.tv_spec_boxes.specs.Assignments.{edge_costs, overlaps_of};
-ghost use Rattle.tv_assignment.specs.Terms.{cells_of};
+ghost use Rattle.tv_assignment.specs.Size.{cells_of};
 
 use crate::assignment::Assignment;
 use tv_cells::legs::Legs;
 use tv_cells::{costs, overlap};
 use tv_degrees::grade::GradedWeb;
-use tv_partition::diagram::Diagram;
+use tv_partition::diagram::{Diagram, MOST_CELLS};
+use tv_spec_plane::limits::MOST_TRIANGLES;
 
 /// The Euler characteristic without boxes.
 pub fn start_of(web: &GradedWeb, assignment: &Assignment, legs: &[Legs]) -> i64
     requires one_each { length assignment.now ≡ length (compact web.now) }
-    requires few { cells_of assignment.now ≤ 24 }
-    requires corners { length legs.now ≤ 128 }
+    requires few { cells_of assignment.now ≤ MOST_CELLS }
+    requires corners { length legs.now ≤ MOST_TRIANGLES }
     ensures value { result ≡ edge_costs web.now assignment.now -ℤ pos (overlaps_of legs.now) }
     ensures bound { unsigned_abs result ≤ 10000000 }
 {
@@ -27,9 +28,9 @@ pub fn start_of(web: &GradedWeb, assignment: &Assignment, legs: &[Legs]) -> i64
 
 fn edge_costs(web: &GradedWeb, assignment: &Assignment) -> i64
     requires one_each { length assignment.now ≡ length (compact web.now) }
-    requires few { cells_of assignment.now ≤ 24 }
+    requires few { cells_of assignment.now ≤ MOST_CELLS }
     ensures value { result ≡ edge_costs web.now assignment.now }
-    ensures bound { unsigned_abs result ≤ 24 * 48001 }
+    ensures bound { unsigned_abs result ≤ MOST_CELLS * 48001 }
 {
     let mut total = 0;
     let diagrams = assignment.diagrams();
@@ -50,9 +51,9 @@ fn edge_cost(web: &GradedWeb, e: u32, diagram: &Diagram) -> i64
 }
 
 fn overlap_costs(legs: &[Legs]) -> i64
-    requires { length legs.now ≤ 128 }
+    requires { length legs.now ≤ MOST_TRIANGLES }
     ensures value { result ≡ pos (overlaps_of legs.now) }
-    ensures bound { unsigned_abs result ≤ 128 * 55000 }
+    ensures bound { unsigned_abs result ≤ MOST_TRIANGLES * 55000 }
 {
     let mut total = 0;
     for corner in legs {

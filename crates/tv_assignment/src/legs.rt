@@ -10,6 +10,7 @@ use std::alloc::{AllocError, Global};
 use tv_cells::legs::Legs;
 use tv_degrees::grade::GradedWeb;
 use tv_partition::diagram::Diagram;
+use tv_spec_plane::limits::MOST_TRIANGLES;
 use tv_web::{Corner, EdgeRef};
 
 /// The legs of each corner, in the order of corners.
@@ -19,7 +20,7 @@ pub fn all_legs(
     assignment: &Assignment,
 ) -> Result<Vec<Legs>, AllocError>
     ensures legs { IfOk result (λ legs. legs.items ≡ all_legs web.now assignment.now (no_legs web.now)) }
-    ensures few { IfOk result (λ legs. length legs.items ≤ 128) }
+    ensures few { IfOk result (λ legs. length legs.items ≤ MOST_TRIANGLES) }
 {
     few_corners(web);
     let mut all = Vec::new(alloc);
@@ -31,7 +32,7 @@ pub fn all_legs(
 
 // Tells that there are at most as many corners as triangles can be, and does nothing.
 fn few_corners(web: &GradedWeb)
-    ensures { length (corners web.now) ≤ 128 }
+    ensures { length (corners web.now) ≤ MOST_TRIANGLES }
 {
     let _ = web.web().triangles();
 }

@@ -13,10 +13,11 @@ use std::alloc::{AllocError, Global};
 use tv_degrees::grade::GradedWeb;
 use tv_partition::all::{Diagrams, all_of};
 use tv_partition::diagram::Diagram;
+use tv_spec_plane::limits::GREATEST_DEGREE;
 
 /// Every assignment of degree at most `d`, each once, in the order of `assignments`.
 pub fn assignments_of(alloc: Global, web: &GradedWeb, d: u32) -> Result<Vec<Assignment>, AllocError>
-    requires { d ≤ 24 }
+    requires { d ≤ GREATEST_DEGREE }
     ensures { IfOk result (λ all. all.items ≡ assignments web.now d) }
 {
     let degrees = degrees_of(alloc, web)?;
@@ -47,7 +48,7 @@ fn degree_at(web: &GradedWeb, e: u32) -> u64
 
 // The diagrams of each size up to d, listed once.
 fn sizes_to(alloc: Global, d: u32) -> Result<Vec<Diagrams>, AllocError>
-    requires { d ≤ 24 }
+    requires { d ≤ GREATEST_DEGREE }
     ensures sizes { IfOk result (λ sizes. AreSizes sizes.items) }
     ensures all { IfOk result (λ sizes. length sizes.items ≡ d + 1) }
 {
@@ -68,7 +69,7 @@ fn push_choices(
 ) -> Result<(), AllocError>
     requires sizes { AreSizes sizes.now }
     requires listed { left < length sizes.now }
-    requires few { left ≤ 24 }
+    requires few { left ≤ GREATEST_DEGREE }
     ensures all { OnOk result (all.new.items ≡ all.old.items ++ behind front.old.items (choices degrees.now left)) }
     ensures front { OnOk result (front.new.items ≡ front.old.items) }
 {
@@ -94,7 +95,7 @@ fn push_sized(
 ) -> Result<(), AllocError>
     requires sizes { AreSizes sizes.now }
     requires listed { left < length sizes.now }
-    requires few { left ≤ 24 }
+    requires few { left ≤ GREATEST_DEGREE }
     requires within { size ≤ left }
     ensures all { OnOk result (all.new.items ≡ all.old.items ++ sized front.old.items later.now left degree size) }
     ensures front { OnOk result (front.new.items ≡ front.old.items) }
@@ -124,7 +125,7 @@ fn push_behind(
 ) -> Result<(), AllocError>
     requires sizes { AreSizes sizes.now }
     requires listed { left < length sizes.now }
-    requires few { left ≤ 24 }
+    requires few { left ≤ GREATEST_DEGREE }
     ensures all { OnOk result (all.new.items ≡ all.old.items ++ behind (front.old.items ++ diagram.now ∷ []) (choices later.now left)) }
     ensures front { OnOk result (front.new.items ≡ front.old.items) }
 {
@@ -136,7 +137,7 @@ fn push_behind(
 
 // The degree that is left beside a diagram of that size on an edge of that degree, none where it has too many cells.
 fn left_beside(left: u32, degree: u64, size: u32) -> Option<u32>
-    requires { left ≤ 24 }
+    requires { left ≤ GREATEST_DEGREE }
     ensures { MatchOption result (nat_le (size * degree) left ≡ false) (λ rest. (nat_le (size * degree) left ≡ true) × (rest ≡ left - size * degree)) }
 {
     let spent = u64::from(size).checked_mul(degree)?;

@@ -15,8 +15,9 @@ use Rattle.tv_spec_plane.specs.Graded.{IsGraded}
 use Rattle.tv_laws_counts.specs.Ways.{IsListed}
 use Rattle.tv_laws_counts.proofs.Degrees.{assignments_listed}
 use Rattle.tv_lemmas.proofs.Members.{all-contains}
-use Rattle.tv_assignment.specs.Terms.{cells_of, assignment_terms, IsTooMany}
-use Rattle.tv_assignment.proofs.Coefficients.{terms-upto, terms-low, terms-coefficient}
+use Rattle.tv_assignment.specs.Size.{cells_of}
+use Rattle.tv_assigned_series.specs.Terms.{assignment_terms, IsTooMany}
+use Rattle.tv_assigned_series.proofs.Coefficients.{terms-upto, terms-low, terms-coefficient}
 use Rattle.tv_assignment.proofs.Listed.{listed-one_each, listed-few}
 use Rattle.tv_spec_series.specs.Full.{IsFull}
 use Rattle.tv_laws_families.specs.Glued.{IsTermsOf, IsGlued}

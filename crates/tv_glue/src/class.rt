@@ -5,13 +5,13 @@ ghost use Rattle.tv_spec_plane.specs.Web.{compact, edge_class};
 ghost use Rattle.tv_partition.specs.Rows.{size};
 ghost use Rattle.tv_degrees.specs.Edges.{edge_at};
 ghost use Rattle.tv_spec_boxes.specs.Assignments.{class_of};
-ghost use Rattle.tv_assignment.specs.Terms.{cells_of};
+ghost use Rattle.tv_assignment.specs.Size.{cells_of};
 
 use std::alloc::{AllocError, Global};
 use tv_assignment::Assignment;
 use tv_degrees::grade::GradedWeb;
 use tv_lattice::class::{self, Class};
-use tv_partition::diagram::Diagram;
+use tv_partition::diagram::{Diagram, MOST_CELLS};
 
 /// The sum over the compact edges of size times class.
 pub(crate) fn class_of(
@@ -20,7 +20,7 @@ pub(crate) fn class_of(
     assignment: &Assignment,
 ) -> Result<Class, AllocError>
     requires one_each { length assignment.now ≡ length (compact web.now) }
-    requires few { cells_of assignment.now ≤ 24 }
+    requires few { cells_of assignment.now ≤ MOST_CELLS }
     ensures { IfOk result (λ class. class ≡ class_of web.now assignment.now) }
 {
     let mut entries = Vec::new(alloc);
@@ -33,10 +33,10 @@ pub(crate) fn class_of(
 // Entry number k.
 fn entry_of(web: &GradedWeb, assignment: &Assignment, k: usize) -> i64
     requires one_each { length assignment.now ≡ length (compact web.now) }
-    requires few { cells_of assignment.now ≤ 24 }
+    requires few { cells_of assignment.now ≤ MOST_CELLS }
     requires place { k < length web.now.points }
     ensures value { result ≡ slice_index_or (class_of web.now assignment.now) k (pos 0) }
-    ensures bound { unsigned_abs result ≤ 24 * 402 }
+    ensures bound { unsigned_abs result ≤ MOST_CELLS * 402 }
 {
     let mut total = 0;
     let diagrams = assignment.diagrams();
@@ -61,7 +61,7 @@ fn entry_at(web: &GradedWeb, e: u32, diagram: &Diagram, k: usize) -> i64
 }
 
 fn product(size: u32, entry: i64) -> i64
-    requires size { size ≤ 24 }
+    requires size { size ≤ MOST_CELLS }
     requires entry { unsigned_abs entry ≤ 402 }
     ensures value { result ≡ pos size *ℤ entry }
     ensures bound { unsigned_abs result ≤ size * 402 }

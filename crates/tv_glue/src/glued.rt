@@ -10,17 +10,19 @@ ghost use Rattle.tv_glue.specs.Faults.{OnWide, IsCrowded};
 use crate::class::class_of;
 use crate::fault::GlueFault;
 use std::alloc::{AllocError, Global};
-use tv_assignment::{Assignment, Corners, PrepareFault, assignment_series, assignments_of};
+use tv_assigned_series::{Corners, PrepareFault, assignment_series};
+use tv_assignment::{Assignment, assignments_of};
 use tv_degrees::grade::GradedWeb;
 use tv_graded::Graded;
 use tv_laurent::SeriesFault;
 use tv_ring::{Ring, RingFault};
+use tv_spec_plane::limits::GREATEST_DEGREE;
 
 /// The series of every class that some assignment of degree at most `d` has, through the exponent `n`: the signed numbers of
 /// configurations, with no diagram on the open edges (Maulik, Nekrasov, Okounkov and Pandharipande: the partition function of
 /// box configurations).
 pub fn full<C: Ring>(alloc: Global, web: &GradedWeb, d: u32, n: i64) -> Result<Graded<C>, GlueFault>
-    requires degree { d ≤ 24 }
+    requires degree { d ≤ GREATEST_DEGREE }
     requires order { unsigned_abs n ≤ 100000000 }
     ensures full { IfOk result (λ family. IsFull C.ring web.now (no_legs web.now) d n family) }
 
@@ -40,7 +42,7 @@ pub fn full_over<C: Ring>(
     n: i64,
     corners: &mut Corners<C>,
 ) -> Result<Graded<C>, GlueFault>
-    requires degree { d ≤ 24 }
+    requires degree { d ≤ GREATEST_DEGREE }
     requires order { unsigned_abs n ≤ 100000000 }
     ensures full { IfOk result (λ family. IsFull C.ring web.now (no_legs web.now) d n family) }
     ensures wide { IfErr result (λ e. OnWide e (IsCrowded C.ring web.now d n)) }
@@ -77,7 +79,7 @@ fn prepare<C: Ring>(
     summands: &Summands,
     corners: &mut Corners<C>,
 ) -> Result<(), GlueFault>
-    requires degree { summands.now.d ≤ 24 }
+    requires degree { summands.now.d ≤ GREATEST_DEGREE }
     requires order { unsigned_abs summands.now.n ≤ 100000000 }
     requires listed { summands.now.all.now ≡ assignments summands.now.web.now summands.now.d }
     ensures wide { IfErr result (λ e. OnWide e (IsCrowded C.ring summands.now.web.now summands.now.d summands.now.n)) }
@@ -114,7 +116,7 @@ fn add<C: Ring>(
     corners: &mut Corners<C>,
     family: &mut Graded<C>,
 ) -> Result<(), GlueFault>
-    requires degree { summands.now.d ≤ 24 }
+    requires degree { summands.now.d ≤ GREATEST_DEGREE }
     requires order { unsigned_abs summands.now.n ≤ 100000000 }
     requires listed { summands.now.all.now ≡ assignments summands.now.web.now summands.now.d }
     requires place { k < length summands.now.all.now }

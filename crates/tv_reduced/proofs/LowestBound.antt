@@ -21,7 +21,7 @@ use Rattle.tv_spec_boxes.specs.Numbers.{fall_by, low_of, least, lowest}
 use Rattle.tv_laws_counts.specs.Ways.{IsListed, IsAtMost}
 use Rattle.tv_lemmas.proofs.Members.{all-both, all-onto, all-members, all-everywhere}
 use Rattle.tv_laws_counts.proofs.Degrees.{assignments_listed}
-use Rattle.tv_assignment.specs.Terms.{cells_of}
+use Rattle.tv_assignment.specs.Size.{cells_of}
 use Rattle.tv_assignment.proofs.Bounded.{edge_cost-small, overlap_cost-small, extent-small}
 use Rattle.tv_assignment.proofs.Listed.{listed-few}
 

@@ -2,6 +2,8 @@
 --
 -- IsSpreadOut r w d n v m  == some assignment of degree at most d has the class v, and the spread of v at the exponent m, of
 --                             at most n, times the size of one, exceeds the limit
+-- of_full fault            == why there is no family of reduced series where there is no full one for that fault
+-- of_division fault        == the same where a series is not divided for that fault
 -- OnCrowd fault P          == P holds of the class of a fault that is Crowd, and the fault is no Spread
 -- OnSpread fault P         == P holds of the class and the exponent of a fault that is Spread, and the fault is no Crowd
 -- IsReducedFault r w d n e == e names a class whose crowd is too wide, or a class and an exponent at which the spread is, or
@@ -12,7 +14,11 @@ use Rattle.tv_spec_plane.specs.Web.{Web}
 use Rattle.tv_spec_boxes.specs.Assignments.{no_legs}
 use Rattle.tv_spec_boxes.specs.Classes.{IsClass}
 use Rattle.tv_spec_series.specs.Reduced.{IsSpread}
+use Rattle.tv_glue.specs.declared.fault.GlueFault.{GlueFault}
+use Rattle.tv_glue.specs.declared.fault.GlueFault.TheVariants.{Wide as TooCrowded, Memory as NoMemoryToGlue}
 use Rattle.tv_glue.specs.Faults.{IsCrowded}
+use Rattle.tv_graded.specs.declared.fault.GradedFault.{GradedFault}
+use Rattle.tv_graded.specs.declared.fault.GradedFault.TheVariants.{Wide as TooWide, Memory as NoMemoryToDivide}
 use Rattle.tv_reduced.specs.declared.fault.ReducedFault.{ReducedFault}
 use Rattle.tv_reduced.specs.declared.fault.ReducedFault.TheVariants.{Crowd, Spread, Memory}
 
@@ -21,6 +27,14 @@ pub record IsSpreadOut {A : Type 0} (r : Operations A) (w : Web) (d : ℕ) (n : 
   pub number : ℕ
   pub spread : IsSpread w (no_legs w) n v m number
   pub wide : limit < number * r.size r.unit
+
+abbrev pub of_full : GlueFault → ReducedFault
+of_full (TooCrowded v) = Crowd v
+of_full NoMemoryToGlue = Memory
+
+abbrev pub of_division : GradedFault → ReducedFault
+of_division (TooWide v m) = Spread v m
+of_division NoMemoryToDivide = Memory
 
 abbrev pub OnCrowd : ReducedFault → (List ℤ → Type 0) → Type 0
 OnCrowd (Crowd v) P = P v

@@ -13,9 +13,9 @@ ghost use Rattle.tv_reduced.specs.Divisors.{counted, from_zero};
 
 use crate::fault::ReducedFault;
 use std::alloc::Global;
-use tv_assignment::Corners;
+use tv_assigned_series::Corners;
 use tv_degrees::grade::GradedWeb;
-use tv_glue::{GlueFault, full_over};
+use tv_glue::full_over;
 use tv_graded::Graded;
 use tv_laurent::{Coefficient, Series};
 use tv_ring::{Ring, RingFault};
@@ -35,8 +35,7 @@ pub fn divisor<C: Ring>(
     web.known();
     match full_over(alloc, web, 0, i64::from(order), corners) {
         Ok(zeros) => of_family(alloc, web, &zeros, order),
-        Err(GlueFault::Wide(class)) => Err(ReducedFault::Crowd(class)),
-        Err(GlueFault::Memory) => Err(ReducedFault::Memory),
+        Err(fault) => Err(ReducedFault::from(fault)),
     }
 }
 

@@ -17,23 +17,24 @@ use crate::divisor::divisor;
 use crate::fault::ReducedFault;
 use crate::order::order_of;
 use std::alloc::Global;
-use tv_assignment::Corners;
+use tv_assigned_series::Corners;
 use tv_degrees::grade::GradedWeb;
-use tv_glue::{GlueFault, full_over};
-use tv_graded::{Graded, GradedFault};
+use tv_glue::full_over;
+use tv_graded::Graded;
 use tv_laurent::Series;
 use tv_ring::Ring;
+use tv_spec_plane::limits::{GREATEST_DEGREE, GREATEST_ORDER};
 
-/// The reduced series of every class of degree at most `d` through the exponent `n`, from -64 to 64: the one series whose
-/// product with that of class zero is the full one (Maulik, Nekrasov, Okounkov and Pandharipande).
+/// The reduced series of every class of degree at most `d` through the exponent `n`, of at most `GREATEST_ORDER` in absolute
+/// value: the one series whose product with that of class zero is the full one (Maulik, Nekrasov, Okounkov and Pandharipande).
 pub fn reduced<C: Ring>(
     alloc: Global,
     web: &GradedWeb,
     d: u32,
     n: i64,
 ) -> Result<Graded<C>, ReducedFault>
-    requires degree { d ≤ 24 }
-    requires order { unsigned_abs n ≤ 64 }
+    requires degree { d ≤ GREATEST_DEGREE }
+    requires order { unsigned_abs n ≤ GREATEST_ORDER }
     ensures reduced { IfOk result (λ family. IsReducedFamily C.ring web.now (no_legs web.now) d n family) }
 
     // Crowd only with a class whose crowd, times the size of one, exceeds the limit; Spread only with a class and an
@@ -63,11 +64,7 @@ fn divided_by<C: Ring>(family: &Graded<C>, zero: &Series<C>) -> Result<Graded<C>
     ensures value { IfOk result (λ d. d ≡ divided C.ring zero.now family.now) }
     ensures wide { IfErr result (λ e. OnSpread e (IsDividedWide C.ring zero.now family.now)) }
 {
-    match family.div_zero(zero) {
-        Ok(quotients) => Ok(quotients),
-        Err(GradedFault::Wide { class, exponent }) => Err(ReducedFault::Spread { class, exponent }),
-        Err(GradedFault::Memory) => Err(ReducedFault::Memory),
-    }
+    Ok(family.div_zero(zero)?)
 }
 
 // The full family, with its fault as one of reduced series.
@@ -78,21 +75,17 @@ fn full_family<C: Ring>(
     n: i64,
     corners: &mut Corners<C>,
 ) -> Result<Graded<C>, ReducedFault>
-    requires degree { d ≤ 24 }
-    requires order { unsigned_abs n ≤ 64 }
+    requires degree { d ≤ GREATEST_DEGREE }
+    requires order { unsigned_abs n ≤ GREATEST_ORDER }
     ensures full { IfOk result (λ family. IsFull C.ring web.now (no_legs web.now) d n family) }
     ensures wide { IfErr result (λ e. OnCrowd e (IsCrowded C.ring web.now d n)) }
 {
-    match full_over(alloc, web, d, n, corners) {
-        Ok(family) => Ok(family),
-        Err(GlueFault::Wide(class)) => Err(ReducedFault::Crowd(class)),
-        Err(GlueFault::Memory) => Err(ReducedFault::Memory),
-    }
+    Ok(full_over(alloc, web, d, n, corners)?)
 }
 
 // Answers nothing, and tells that no assignment starts far below exponent 0.
 fn lowest_known(web: &GradedWeb, d: u32)
-    requires { d ≤ 24 }
+    requires { d ≤ GREATEST_DEGREE }
     ensures { negsuc 9999999 ≤ℤ lowest web.now (no_legs web.now) d }
 {
     web.known();

@@ -2,6 +2,8 @@
 
 use std::alloc::{AllocError, AllocFailed};
 use thiserror::Error;
+use tv_glue::GlueFault;
+use tv_graded::GradedFault;
 use tv_lattice::class::Class;
 
 /// The configurations of a class are too many, the sizes that meet in a division are too large, or there is no memory.
@@ -18,6 +20,34 @@ pub enum ReducedFault {
     /// There is no memory left.
     #[error("out of memory")]
     Memory,
+}
+
+impl From<GlueFault> for ReducedFault {
+    ghost use Rattle.tv_reduced.specs.Faults.{of_full};
+    ghost use Rattle.std.specs.Prelude.{◌≡◌};
+
+    ghost from_gives = { λ fault e. e ≡ of_full fault };
+
+    fn from(fault: GlueFault) -> ReducedFault {
+        match fault {
+            GlueFault::Wide(class) => ReducedFault::Crowd(class),
+            GlueFault::Memory => ReducedFault::Memory,
+        }
+    }
+}
+
+impl From<GradedFault> for ReducedFault {
+    ghost use Rattle.tv_reduced.specs.Faults.{of_division};
+    ghost use Rattle.std.specs.Prelude.{◌≡◌};
+
+    ghost from_gives = { λ fault e. e ≡ of_division fault };
+
+    fn from(fault: GradedFault) -> ReducedFault {
+        match fault {
+            GradedFault::Wide { class, exponent } => ReducedFault::Spread { class, exponent },
+            GradedFault::Memory => ReducedFault::Memory,
+        }
+    }
 }
 
 impl<T: Drop> From<AllocFailed<T>> for ReducedFault {

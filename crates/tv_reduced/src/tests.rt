@@ -1,10 +1,13 @@
-//! The conifold's reduced series in degree 1, as they are known from outside: 1 in class zero, and q / (1 + q)^2 for the curve.
+//! The conifold's reduced series in degree 1, as they are known from outside: 1 in class zero, and q / (1 + q)^2 for the curve;
+//! and what becomes of the faults of what is called.
 
-use crate::reduced;
+use crate::{ReducedFault, reduced};
 use std::alloc::Global;
 use std::test::Fail;
 use tv_degrees::grade::{GradedWeb, grade};
-use tv_graded::Graded;
+use tv_glue::GlueFault;
+use tv_graded::{Graded, GradedFault};
+use tv_lattice::class::Class;
 use tv_lattice::point::Point;
 use tv_laurent::Coefficient;
 use tv_laws_families::laws;
@@ -13,31 +16,26 @@ use tv_spec_plane::records::Triple;
 use tv_triangulation::triangulate::triangulate;
 use tv_web::web::build_web;
 
+fn point(x: i64, y: i64) -> Result<Point, Fail> {
+    Ok(Point::new(x, y).ok_or("a point")?)
+}
+
 // The resolved conifold, by heights that are 1 at point 1 alone.
 fn conifold(alloc: Global) -> Result<GradedWeb, Fail> {
-    let mut points = Vec::new(alloc);
-    for (x, y) in [(0, 0), (1, 0), (1, 1), (0, 1)] {
-        points.push(Point::new(x, y).ok_or("a point")?)?;
-    }
-    let mut triangles = Vec::new(alloc);
-    for (a, b, c) in [(0, 1, 2), (0, 2, 3)] {
-        triangles.push(Triple { a, b, c })?;
-    }
-    if points.len() != 4 || triangles.len() > 3 {
-        return Err("four points".into());
-    }
+    let points = [point(0, 0)?, point(1, 0)?, point(1, 1)?, point(0, 1)?];
+    let triangles = [Triple { a: 0, b: 1, c: 2 }, Triple { a: 0, b: 2, c: 3 }];
     let triangulation = triangulate(alloc, &points, &triangles)?;
     let web = build_web(alloc, triangulation)?;
-    let heights = [0, 1, 0, 0].to_vec(alloc)?;
     if web.points().len() != 4 {
         return Err("four points".into());
     }
+    let heights = [0, 1, 0, 0].to_vec(alloc)?;
     Ok(grade(alloc, web, heights)?)
 }
 
-// The coefficient of row `k`; 0 below its low.
-fn at(family: &Graded<Whole>, k: usize, n: i64) -> Option<i128> {
-    match family.at(k)?.series.coefficient(n) {
+// The coefficient of the curve.
+fn at(family: &Graded<Whole>, n: i64) -> Option<i128> {
+    match family.at(1)?.series.coefficient(n) {
         Coefficient::Is(whole) => Some(whole.get()),
         Coefficient::Zero => Some(0),
         Coefficient::Beyond => None,
@@ -47,43 +45,46 @@ fn at(family: &Graded<Whole>, k: usize, n: i64) -> Option<i128> {
 #[test]
 fn divides_the_conifold(rt: HostRuntime) -> Result<(), Fail> {
     let web = conifold(rt.alloc())?;
-    let family: Graded<Whole> = reduced(rt.alloc(), &web, 1, 4)?;
-    assert_eq!(rt; family.len(), 2);
-    assert_eq!(rt; family.top(), 1);
-    assert_eq!(rt; family.upto(), 4);
-    for (n, want) in [(-1, 0), (0, 1), (1, 0), (2, 0), (3, 0), (4, 0)] {
-        assert!(rt; at(&family, 0, n) == Some(want), "class 0 at {n}");
-    }
-    for (n, want) in [(0, 0), (1, 1), (2, -2), (3, 3), (4, -4)] {
-        assert!(rt; at(&family, 1, n) == Some(want), "the curve at {n}");
-    }
-    assert!(rt; at(&family, 1, 5).is_none());
+    let family: Graded<Whole> = reduced(rt.alloc(), &web, 1, 2)?;
+    assert_eq!(rt; (family.len(), family.top(), family.upto()), (2, 1, 2));
+    assert!(rt; at(&family, 1) == Some(1) && at(&family, 2) == Some(-2) && at(&family, 3).is_none());
     Ok(())
 }
 
-#[test]
-fn divides_below_every_low(rt: HostRuntime) -> Result<(), Fail> {
-    let web = conifold(rt.alloc())?;
-    let family: Graded<Whole> = reduced(rt.alloc(), &web, 1, -3)?;
-    assert_eq!(rt; family.len(), 2);
-    assert!(rt; at(&family, 1, -3) == Some(0));
-    assert!(rt; at(&family, 1, -2).is_none());
-    Ok(())
+// Whether the last coefficient of the curve is this one.
+fn is_residue(family: &Graded<Residue<7>>, n: i64, want: u64) -> bool {
+    match family.at(1) {
+        Some(entry) => {
+            matches!(entry.series.coefficient(n), Coefficient::Is(residue) if residue.get() == want)
+        }
+        None => false,
+    }
 }
 
 #[test]
 fn divides_residues(rt: HostRuntime) -> Result<(), Fail> {
     let web = conifold(rt.alloc())?;
-    let family: Graded<Residue<7>> = reduced(rt.alloc(), &web, 1, 3)?;
-    let Some(entry) = family.at(1) else {
-        return Err("the curve".into());
-    };
-    for (n, want) in [(1, 1), (2, 5), (3, 3)] {
-        assert!(rt;
-            matches!(entry.series.coefficient(n), Coefficient::Is(residue) if residue.get() == want),
-            "at {n}"
-        );
-    }
+    let family: Graded<Residue<7>> = reduced(rt.alloc(), &web, 1, 2)?;
+    assert!(rt; is_residue(&family, 2, 5));
+    Ok(())
+}
+
+fn curve(alloc: Global) -> Result<Class, Fail> {
+    Ok(Class::new([-1, 1].to_vec(alloc)?))
+}
+
+#[test]
+fn keeps_the_class_of_a_crowd(rt: HostRuntime) -> Result<(), Fail> {
+    let fault = ReducedFault::from(GlueFault::Wide(curve(rt.alloc())?));
+    assert!(rt; matches!(fault, ReducedFault::Crowd(class) if class.entries() == [-1, 1].as_slice()));
+    Ok(())
+}
+
+#[test]
+fn keeps_the_exponent_of_a_spread(rt: HostRuntime) -> Result<(), Fail> {
+    let class = curve(rt.alloc())?;
+    let fault = ReducedFault::from(GradedFault::Wide { class, exponent: 7 });
+    assert!(rt; matches!(fault, ReducedFault::Spread { class: _, exponent: 7 }));
     Ok(())
 }
 

@@ -1,7 +1,7 @@
 use Rattle.std.proofs.Common.{sym, subst, w64, arith}
 use Rattle.std.specs.List.{AllByRecursion}
 use Rattle.std.proofs.lemmas.Int.{to_z-of_z}
-use Rattle.tv_assignment.specs.Asked.{IsOn}
+use Rattle.tv_assignment.specs.Size.{IsOn}
 use Rattle.tv_assignment.proofs.Listed.{listed-on}
 use Rattle.tv_lattice.proofs.Sums.{small-fits}
 use Rattle.tv_glue.proofs.Adding.{is_next, next-one_each, next-few, named-crowded}

@@ -1,0 +1,8 @@
+pub mod Coefficients
+mod Inserted
+mod Keeping
+mod Asking
+mod Prepared
+mod Fronts
+mod WithSigns
+mod Assembled

@@ -1,0 +1,5 @@
+pub mod Terms
+pub mod Kept
+pub mod Asked
+pub use Rattle.tv_spec_boxes.specs.Assignments
+pub use Rattle.tv_laws_counts.specs.Ways

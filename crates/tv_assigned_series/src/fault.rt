@@ -1,0 +1,37 @@
+//! Why the series of corners could not be prepared. It names an assignment by its place in a list, and no class.
+
+use std::alloc::{AllocError, AllocFailed};
+use thiserror::Error;
+
+/// There are too many sets of boxes at the corners of an assignment, or want of memory.
+#[derive(Debug, Drop, Error)]
+pub enum PrepareFault {
+    /// The number of an assignment at whose corners there are too many sets of boxes.
+    #[error("there are too many sets of boxes at the corners of assignment {0}")]
+    Wide(usize),
+    /// There is no memory left.
+    #[error("out of memory")]
+    Memory,
+}
+
+impl<T: Drop> From<AllocFailed<T>> for PrepareFault {
+    ghost use Rattle.tv_assigned_series.specs.declared.fault.PrepareFault.TheVariants.{Memory};
+    ghost use Rattle.std.specs.Prelude.{◌≡◌};
+
+    ghost from_gives = { λ _ e. e ≡ Memory };
+
+    fn from(_e: AllocFailed<T>) -> PrepareFault {
+        PrepareFault::Memory
+    }
+}
+
+impl From<AllocError> for PrepareFault {
+    ghost use Rattle.tv_assigned_series.specs.declared.fault.PrepareFault.TheVariants.{Memory};
+    ghost use Rattle.std.specs.Prelude.{◌≡◌};
+
+    ghost from_gives = { λ _ e. e ≡ Memory };
+
+    fn from(_e: AllocError) -> PrepareFault {
+        PrepareFault::Memory
+    }
+}

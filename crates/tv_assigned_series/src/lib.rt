@@ -1,0 +1,17 @@
+//! The series of an assignment over any ring: the series of its corners, kept by their legs, multiplied, and given signs. They
+//! are not added up here, and no assignment is listed.
+#![tactic(auto)]
+
+mod asked;
+mod corners;
+mod fault;
+mod prepare;
+mod product;
+mod series;
+mod signs;
+#[cfg(test)]
+mod tests;
+
+pub use corners::Corners;
+pub use fault::PrepareFault;
+pub use series::assignment_series;
