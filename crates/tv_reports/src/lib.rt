@@ -5,5 +5,6 @@
 pub mod check;
 pub mod laws;
 pub mod series;
+pub mod summary;
 #[cfg(test)]
 mod tests;

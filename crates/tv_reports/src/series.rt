@@ -41,7 +41,8 @@ pub fn print_series(
     )
 }
 
-fn sections_of(alloc: Global, series: &Graded<Whole>) -> Result<Vec<Section>, AllocError>
+/// The sections of the report of a family, a class each, in the family's order. It errs only for want of memory.
+pub fn sections_of(alloc: Global, series: &Graded<Whole>) -> Result<Vec<Section>, AllocError>
     ensures value { IfOk result (λ v. v.items ≡ sections_of series.now) }
     ensures small { IfOk result (λ v. AllByRecursion IsSmall v.items) }
 {

@@ -1,7 +1,8 @@
 //! The check of local P^2, as it is known from outside, and a made-up family in each kind.
 
 use crate::check::print_check;
-use crate::series::print_series;
+use crate::series::{print_series, sections_of};
+use crate::summary::{print_summary, summarize};
 use std::alloc::Global;
 use std::test::Fail;
 use tv_degrees::grade::grade;
@@ -133,5 +134,18 @@ fn prints_a_family(rt: HostRuntime) -> Result<(), Fail> {
         text.push_str(MADE_UP)?;
         assert_eq!(rt; report.as_slice(), text.as_bytes());
     }
+    Ok(())
+}
+
+// The sum is 1 - 4 + 5 = 2, and there are three terms in three classes, the last of them without a term.
+#[test]
+fn sums_up_a_family(rt: HostRuntime) -> Result<(), Fail> {
+    let family = made_up(rt.alloc())?;
+    let sections = sections_of(rt.alloc(), &family)?;
+    let summary = summarize(4, 2, 2, &sections);
+    let text = print_summary(rt.alloc(), &summary)?;
+    let expected =
+        "report summary\ngrid 4\ndegree 2\nupto 2\nclasses 3\nterms 3\nzero -4\nsum 2\nend\n";
+    assert_eq!(rt; text.as_slice(), expected.as_bytes());
     Ok(())
 }

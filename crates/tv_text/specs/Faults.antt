@@ -27,7 +27,7 @@ IsText bytes w = (length bytes ≤ MOST_BYTES) × Spells (word_lines bytes) w ×
 
 abbrev pub IsTextFault : List ℕ → InputError → Type 0
 IsTextFault bytes (Fault TooLong) = MOST_BYTES < length bytes
-IsTextFault bytes (Fault (Line n)) = (length bytes ≤ MOST_BYTES) × IsLineFault (word_lines bytes) (Fault (Line n))
+IsTextFault bytes (Fault (Line n)) = (length bytes ≤ MOST_BYTES) × ((k : ℕ) × (n ≡ suc k) × IsPlace IsFile (word_lines bytes) k)
 IsTextFault bytes (Fault (TooMany e)) = (length bytes ≤ MOST_BYTES) × ((w : Web) × Spells (word_lines bytes) w × IsExcess w e)
 IsTextFault bytes (Fault _) = ⊥
 IsTextFault bytes Memory = ⊤

@@ -14,7 +14,7 @@ number_between (negsuc l) high (negsuc n) p k q r = omega (arith, ints)
 number_between (pos l) high (negsuc n) p k q r = absurd (omega (arith, ints))
 
 pub between_is_number : (low high z : ℤ) → IsNumber low → IsNumber high → IsBetween low high z → IsNumber z
-between_is_number low high z l k b = number_between low high z l k b.least b.greatest
+between_is_number low high z l k b = number_between low high z l k b.0 b.1
 
 small : (z : ℤ) → IsNumber z → mag z < 2 ^ 63
 small (pos n) h = omega arith
@@ -28,7 +28,7 @@ module _ (low high : ℤ) (l : IsNumber low) (k : IsNumber high) where
   other_number_none_between w y n e h z b s = h (subst (IsBetween low high) (sym (signed_decimal_injective y z (small y n) (small z (between_is_number low high z l k b)) (sym e ∙ s))) b)
 
 pub too_low : (low high z : ℤ) → z <ℤ low → IsBetween low high z → ⊥
-too_low low high z l b = let least = b.least in absurd (omega (arith, ints))
+too_low low high z l b = let least = b.0 in absurd (omega (arith, ints))
 
 pub too_high : (low high z : ℤ) → high <ℤ z → IsBetween low high z → ⊥
-too_high low high z l b = let greatest = b.greatest in absurd (omega (arith, ints))
+too_high low high z l b = let greatest = b.1 in absurd (omega (arith, ints))

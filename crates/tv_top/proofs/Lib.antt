@@ -1,9 +1,11 @@
 pub mod WordPlaces
 pub mod Between
+pub mod SameCommand
 pub mod Told
 pub mod FullReport
 pub mod ReducedReport
 pub mod WideNumbers
+pub mod SummaryReport
 pub mod RejectedReply
 pub mod Completeness
 pub mod Sound

@@ -1,32 +1,49 @@
 -- Where words leave the word lists.
-use Rattle.std.proofs.Common.{◌≡◌, ◌≢◌, ◌⊎◌, inl, inr, ℕ, ℤ, pos, List, [], ◌∷◌, length, map, codes, false, ◌==◌, refl, ap, sym, ◌∙◌, arith}
+use Rattle.std.proofs.Common.{◌≡◌, ◌≢◌, ℕ, zero, suc, ℤ, pos, List, [], ◌∷◌, ◌++◌, length, map, false, ◌==◌, refl, ap, sym, ◌∙◌, arith}
 use Rattle.std.proofs.lemmas.Int.{ints}
 use Rattle.tv_spec_text.specs.Lines.{Word, spelled}
-use Rattle.tv_spec_text.specs.Places.{IsPlace}
+use Rattle.tv_spec_text.specs.Places.{Begins, IsPlace}
 use Rattle.tv_text.specs.declared.series.Kind.{Kind}
 use Rattle.tv_text.specs.declared.series.Kind.TheVariants.{Full}
 use Rattle.tv_text.specs.Sections.{kind_word}
-use Rattle.tv_top.specs.Commands.{IsDegree, IsOrder, IsSeries, IsCommand, Asks, series_words}
+use Rattle.tv_top.specs.Commands.{IsSide, IsDegree, IsOrder, IsSeries, IsGenerate, IsSummaryOf, IsCommand, Asks, name_word, series_words, generate_words, summary_words}
+use Rattle.tv_top.specs.declared.command.Name.{Name}
+use Rattle.tv_top.specs.declared.command.Name.TheVariants.{Check as CheckName, Series as SeriesName, Generate as GenerateName, Summary as SummaryName}
 use Rattle.tv_top.specs.declared.command.Command.{Command}
-use Rattle.tv_top.specs.declared.command.Command.TheVariants.{Check, Series}
+use Rattle.tv_top.specs.declared.command.Command.TheVariants.{Check, Series, Generate, Summary}
 
-abbrev check : Word
-check = codes "check"
+-- The words in front begin a list of L, and those behind them go on with none.
 
-abbrev series : Word
-series = codes "series"
+pub record GoesOnWithNone (L : List Word → Type 0) (xs : List Word) : Type 0 where
+  pub other : (w : Word) (ws rest : List Word) → xs ≡ w ∷ ws → L (w ∷ rest) → ⊥
+  pub short : xs ≡ [] → L [] → ⊥
 
-abbrev nought : Word
+here : (L : List Word → Type 0) (xs : List Word) → Begins L [] → GoesOnWithNone L xs → IsPlace L xs 0
+here L [] b g = record { within = omega arith; before = b; outside = λ p. absurd (omega arith); short = λ e l. g.short refl l }
+here L (w ∷ ws) b g = record { within = omega arith; before = b; outside = λ p l. g.other w ws l.0 refl l.1; short = λ e. absurd (omega arith) }
+
+further : (L : List Word → Type 0) (w : Word) (ws : List Word) (k : ℕ) → IsPlace (λ us. L (w ∷ us)) ws k → IsPlace L (w ∷ ws) (suc k)
+further L w ws k p = record { within = let h = p.within in omega arith; before = p.before; outside = λ h. p.outside (omega arith); short = λ e. p.short (omega arith) }
+
+behind : (L : List Word → Type 0) (front xs : List Word) → Begins L front → GoesOnWithNone (λ us. L (front ++ us)) xs → IsPlace L (front ++ xs) (length front)
+behind L [] xs b g = here L xs b g
+behind L (w ∷ front) xs b g = further L w (front ++ xs) (length front) (behind (λ us. L (w ∷ us)) front xs b g)
+
+-- some numbers that words may ask for
+
+nought : Word
 nought = spelled (pos 0)
 
 zero_degree : IsDegree 0
-zero_degree = record { least = omega (arith, ints); greatest = omega (arith, ints) }
+zero_degree = (omega (arith, ints), omega (arith, ints))
 
 zero_order : IsOrder (pos 0)
-zero_order = record { least = omega (arith, ints); greatest = omega (arith, ints) }
+zero_order = (omega (arith, ints), omega (arith, ints))
 
-command : (kind : Kind) (d : ℕ) (n : ℤ) → IsDegree d → IsOrder n → IsCommand (series_words kind d n)
-command kind d n g h = (Series kind d n, record { through = g; order = h; same = refl })
+one_side : IsSide 1
+one_side = (omega (arith, ints), omega (arith, ints))
+
+-- heads and tails of lists of words
 
 head : {a b : Word} {us vs : List Word} → a ∷ us ≡ b ∷ vs → a ≡ b
 head e = cc
@@ -38,23 +55,69 @@ pub some_word : {A B : Type 0} (f : A → B) (xs : List A) → false ≡ (length
 some_word f [] h e = cc
 some_word f (x ∷ xs) h e = cc
 
-no_more : (w : Word) (ws : List Word) → w ∷ ws ≡ [] → ⊥
-no_more w ws e = cc
+no_more : {w : Word} {ws : List Word} → w ∷ ws ≡ [] → ⊥
+no_more e = cc
 
-check_is_not_series : check ≡ series → ⊥
-check_is_not_series e = let lengths : length check ≡ length series = ap length e in absurd (omega arith)
+-- the first word of a command
 
--- the words of commands by their first word
-no_words : (c : Command) → Asks [] c → ⊥
-no_words Check h = cc
-no_words (Series kind d n) h = let same : [] ≡ series_words kind d n = h.same in cc
+pub same_name : (n m : Name) → name_word n ≡ name_word m → n ≡ m
+same_name CheckName CheckName e = refl
+same_name SeriesName SeriesName e = refl
+same_name GenerateName GenerateName e = refl
+same_name SummaryName SummaryName e = refl
+same_name CheckName SeriesName e = absurd (let lengths = ap length e in omega arith)
+same_name CheckName GenerateName e = absurd (let lengths = ap length e in omega arith)
+same_name CheckName SummaryName e = absurd (let lengths = ap length e in omega arith)
+same_name SeriesName CheckName e = absurd (let lengths = ap length e in omega arith)
+same_name SeriesName GenerateName e = absurd (let lengths = ap length e in omega arith)
+same_name SeriesName SummaryName e = absurd (let lengths = ap length e in omega arith)
+same_name GenerateName CheckName e = absurd (let lengths = ap length e in omega arith)
+same_name GenerateName SeriesName e = absurd (let lengths = ap length e in omega arith)
+same_name GenerateName SummaryName e = absurd (let lengths = ap length e in omega arith)
+same_name SummaryName CheckName e = absurd (let lengths = ap length e in omega arith)
+same_name SummaryName SeriesName e = absurd (let lengths = ap length e in omega arith)
+same_name SummaryName GenerateName e = absurd (let lengths = ap length e in omega arith)
 
-first_by : (w : Word) (ws : List Word) (c : Command) → Asks (w ∷ ws) c → (w ≡ check) ⊎ (w ≡ series)
-first_by w ws Check h = inl (head h)
-first_by w ws (Series kind d n) h = inr (head h.same)
+pub name_of : Command → Name
+name_of Check = CheckName
+name_of (Series kind d n) = SeriesName
+name_of (Generate k) = GenerateName
+name_of (Summary k d n) = SummaryName
 
--- what follows `series` in a command
-record Tail (ws : List Word) : Type 0 where
+-- what follows the name
+pub rest_of : Command → List Word
+rest_of Check = []
+rest_of (Series kind d n) = kind_word kind ∷ spelled (pos d) ∷ spelled n ∷ []
+rest_of (Generate k) = spelled (pos k) ∷ []
+rest_of (Summary k d n) = spelled (pos k) ∷ spelled (pos d) ∷ spelled n ∷ []
+
+pub asks_words : (ws : List Word) (c : Command) → Asks ws c → ws ≡ name_word (name_of c) ∷ rest_of c
+asks_words ws Check h = h
+asks_words ws (Series kind d n) h = h.same
+asks_words ws (Generate k) h = h.same
+asks_words ws (Summary k d n) h = h.same
+
+pub place_first : (xs : List Word) → ((name : Name) (ws : List Word) → xs ≢ name_word name ∷ ws) → IsPlace IsCommand xs 0
+place_first xs h = here IsCommand xs (name_word CheckName ∷ [], (Check, refl)) (record {
+  other = λ w ws rest e c. h (name_of c.0) ws (e ∙ ap (λ v. v ∷ ws) (head (asks_words (w ∷ rest) c.0 c.1)));
+  short = λ e c. no_more (sym (asks_words [] c.0 c.1));
+})
+
+-- no word after `check`
+check_rest : (w : Word) (rest : List Word) (c : Command) → Asks (name_word CheckName ∷ w ∷ rest) c → ⊥
+check_rest w rest Check h = no_more (tail h)
+check_rest w rest (Series kind d n) h = absurd (let lengths = ap length (head h.same) in omega arith)
+check_rest w rest (Generate k) h = absurd (let lengths = ap length (head h.same) in omega arith)
+check_rest w rest (Summary k d n) h = absurd (let lengths = ap length (head h.same) in omega arith)
+
+pub place_after_check : (xs : List Word) → xs ≢ [] → IsPlace IsCommand (name_word CheckName ∷ xs) 1
+place_after_check xs some = behind IsCommand (name_word CheckName ∷ []) xs ([], (Check, refl)) (record {
+  other = λ w ws rest e c. check_rest w rest c.0 c.1;
+  short = λ e. absurd (some e);
+})
+
+-- what follows `series`, `generate` and `summary` in a command
+record SeriesTail (ws : List Word) : Type 0 where
   kind : Kind
   degree : ℕ
   upto : ℤ
@@ -62,79 +125,124 @@ record Tail (ws : List Word) : Type 0 where
   order : IsOrder upto
   same : ws ≡ kind_word kind ∷ spelled (pos degree) ∷ spelled upto ∷ []
 
-tail_by : (ws : List Word) (c : Command) → Asks (series ∷ ws) c → Tail ws
-tail_by ws Check h = absurd (check_is_not_series (sym (head h)))
-tail_by ws (Series k d n) h = record { kind = k; degree = d; upto = n; through = h.through; order = h.order; same = tail h.same }
+record GenerateTail (ws : List Word) : Type 0 where
+  side : ℕ
+  within : IsSide side
+  same : ws ≡ spelled (pos side) ∷ []
 
-series_tail : (ws : List Word) → IsCommand (series ∷ ws) → Tail ws
-series_tail ws c = tail_by ws c.0 c.1
+record SummaryTail (ws : List Word) : Type 0 where
+  side : ℕ
+  degree : ℕ
+  upto : ℤ
+  within : IsSide side
+  through : IsDegree degree
+  order : IsOrder upto
+  same : ws ≡ spelled (pos side) ∷ spelled (pos degree) ∷ spelled upto ∷ []
 
--- the place of the first word
-pub place_first : (xs : List Word) → ((ws : List Word) → xs ≢ codes "check" ∷ ws) → ((ws : List Word) → xs ≢ codes "series" ∷ ws) → IsPlace IsCommand xs 0
-place_first [] h k = record { within = omega arith; before = (check ∷ [], (Check, refl)); outside = λ p. absurd (omega arith); short = λ e c. no_words c.0 c.1 }
-place_first (w ∷ ws) h k = record {
-  within = omega arith;
-  before = (check ∷ [], (Check, refl));
-  outside = λ p b. elim (first_by w b.0 b.1.0 b.1.1) [ inl e ↦ h ws (ap (λ x. x ∷ ws) e) | inr e ↦ k ws (ap (λ x. x ∷ ws) e) ];
-  short = λ e c. absurd (omega arith);
-}
+other_name : {A : Type 0} (n m : Name) (us vs : List Word) → (n ≡ m → ⊥) → name_word n ∷ us ≡ name_word m ∷ vs → A
+other_name n m us vs differ e = absurd (differ (same_name n m (head e)))
+
+series_tail : (ws : List Word) (c : Command) → Asks (name_word SeriesName ∷ ws) c → SeriesTail ws
+series_tail ws Check h = other_name SeriesName CheckName _ _ (λ e. cc) h
+series_tail ws (Series k d n) h = record { kind = k; degree = d; upto = n; through = h.through; order = h.order; same = tail h.same }
+series_tail ws (Generate k) h = other_name SeriesName GenerateName _ _ (λ e. cc) h.same
+series_tail ws (Summary k d n) h = other_name SeriesName SummaryName _ _ (λ e. cc) h.same
+
+generate_tail : (ws : List Word) (c : Command) → Asks (name_word GenerateName ∷ ws) c → GenerateTail ws
+generate_tail ws Check h = other_name GenerateName CheckName _ _ (λ e. cc) h
+generate_tail ws (Series k d n) h = other_name GenerateName SeriesName _ _ (λ e. cc) h.same
+generate_tail ws (Generate k) h = record { side = k; within = h.within; same = tail h.same }
+generate_tail ws (Summary k d n) h = other_name GenerateName SummaryName _ _ (λ e. cc) h.same
+
+summary_tail : (ws : List Word) (c : Command) → Asks (name_word SummaryName ∷ ws) c → SummaryTail ws
+summary_tail ws Check h = other_name SummaryName CheckName _ _ (λ e. cc) h
+summary_tail ws (Series k d n) h = other_name SummaryName SeriesName _ _ (λ e. cc) h.same
+summary_tail ws (Generate k) h = other_name SummaryName GenerateName _ _ (λ e. cc) h.same
+summary_tail ws (Summary k d n) h = record { side = k; degree = d; upto = n; within = h.within; through = h.through; order = h.order; same = tail h.same }
 
 -- the places after `series`
-pub place_kind : (rest : List Word) → ((kind : Kind) (ws : List Word) → rest ≢ kind_word kind ∷ ws) → IsPlace IsCommand (codes "series" ∷ rest) 1
-place_kind [] h = record {
-  within = omega arith;
-  before = (kind_word Full ∷ nought ∷ nought ∷ [], command Full 0 (pos 0) zero_degree zero_order);
-  outside = λ p. absurd (omega arith);
-  short = λ q c. let t = series_tail [] c in h t.kind _ t.same;
-}
-place_kind (w ∷ ws) h = record {
-  within = omega arith;
-  before = (kind_word Full ∷ nought ∷ nought ∷ [], command Full 0 (pos 0) zero_degree zero_order);
-  outside = λ p b. let t = series_tail (w ∷ b.0) b.1 in h t.kind ws (ap (λ x. x ∷ ws) (head t.same));
-  short = λ q c. absurd (omega arith);
-}
 
-pub place_degree : (xs rest : List Word) (kind : Kind) → xs ≡ kind_word kind ∷ rest → ((d : ℕ) (ws : List Word) → IsDegree d → rest ≢ spelled (pos d) ∷ ws) → IsPlace IsCommand (codes "series" ∷ xs) 2
-place_degree xs [] kind e h = rw e (record {
-  within = omega arith;
-  before = (nought ∷ nought ∷ [], command kind 0 (pos 0) zero_degree zero_order);
-  outside = λ p. absurd (omega arith);
-  short = λ q c. let t = series_tail (kind_word kind ∷ []) c in h t.degree _ t.through (tail t.same);
-})
-place_degree xs (w ∷ ws) kind e h = rw e (record {
-  within = omega arith;
-  before = (nought ∷ nought ∷ [], command kind 0 (pos 0) zero_degree zero_order);
-  outside = λ p b. let t = series_tail (kind_word kind ∷ w ∷ b.0) b.1 in h t.degree ws t.through (ap (λ x. x ∷ ws) (head (tail t.same)));
-  short = λ q c. absurd (omega arith);
+series_command : (kind : Kind) (d : ℕ) (n : ℤ) → IsDegree d → IsOrder n → IsCommand (series_words kind d n)
+series_command kind d n g h = (Series kind d n, record { through = g; order = h; same = refl })
+
+pub place_kind : (xs : List Word) → ((kind : Kind) (ws : List Word) → xs ≢ kind_word kind ∷ ws) → IsPlace IsCommand (name_word SeriesName ∷ xs) 1
+place_kind xs h = behind IsCommand (name_word SeriesName ∷ []) xs (kind_word Full ∷ nought ∷ nought ∷ [], series_command Full 0 (pos 0) zero_degree zero_order) (record {
+  other = λ w ws rest e c. let t = series_tail (w ∷ rest) c.0 c.1 in h t.kind ws (e ∙ ap (λ v. v ∷ ws) (head t.same));
+  short = λ e c. let t = series_tail [] c.0 c.1 in no_more (sym t.same);
 })
 
-pub place_order : (xs rest : List Word) (kind : Kind) (d : ℕ) → IsDegree d → xs ≡ kind_word kind ∷ spelled (pos d) ∷ rest → ((z : ℤ) (ws : List Word) → IsOrder z → rest ≢ spelled z ∷ ws) → IsPlace IsCommand (codes "series" ∷ xs) 3
-place_order xs [] kind d g e h = rw e (record {
-  within = omega arith;
-  before = (nought ∷ [], command kind d (pos 0) g zero_order);
-  outside = λ p. absurd (omega arith);
-  short = λ q c. let t = series_tail (kind_word kind ∷ spelled (pos d) ∷ []) c in h t.upto _ t.order (tail (tail t.same));
-})
-place_order xs (w ∷ ws) kind d g e h = rw e (record {
-  within = omega arith;
-  before = (nought ∷ [], command kind d (pos 0) g zero_order);
-  outside = λ p b. let t = series_tail (kind_word kind ∷ spelled (pos d) ∷ w ∷ b.0) b.1 in h t.upto ws t.order (ap (λ x. x ∷ ws) (head (tail (tail t.same))));
-  short = λ q c. absurd (omega arith);
+pub place_series_degree : (xs rest : List Word) (kind : Kind) → xs ≡ kind_word kind ∷ rest → ((d : ℕ) (ws : List Word) → IsDegree d → rest ≢ spelled (pos d) ∷ ws) → IsPlace IsCommand (name_word SeriesName ∷ xs) 2
+place_series_degree xs rest kind e h = rw e (behind IsCommand (name_word SeriesName ∷ kind_word kind ∷ []) rest (nought ∷ nought ∷ [], series_command kind 0 (pos 0) zero_degree zero_order) (record {
+  other = λ w ws more e c. let t = series_tail (kind_word kind ∷ w ∷ more) c.0 c.1 in h t.degree ws t.through (e ∙ ap (λ v. v ∷ ws) (head (tail t.same)));
+  short = λ e c. let t = series_tail (kind_word kind ∷ []) c.0 c.1 in no_more (sym (tail t.same));
+}))
+
+pub place_series_order : (xs rest : List Word) (kind : Kind) (d : ℕ) → IsDegree d → xs ≡ kind_word kind ∷ spelled (pos d) ∷ rest → ((z : ℤ) (ws : List Word) → IsOrder z → rest ≢ spelled z ∷ ws) → IsPlace IsCommand (name_word SeriesName ∷ xs) 3
+place_series_order xs rest kind d g e h = rw e (behind IsCommand (name_word SeriesName ∷ kind_word kind ∷ spelled (pos d) ∷ []) rest (nought ∷ [], series_command kind d (pos 0) g zero_order) (record {
+  other = λ w ws more e c. let t = series_tail (kind_word kind ∷ spelled (pos d) ∷ w ∷ more) c.0 c.1 in h t.upto ws t.order (e ∙ ap (λ v. v ∷ ws) (head (tail (tail t.same))));
+  short = λ e c. let t = series_tail (kind_word kind ∷ spelled (pos d) ∷ []) c.0 c.1 in no_more (sym (tail (tail t.same)));
+}))
+
+pub place_series_end : (xs rest : List Word) (kind : Kind) (d : ℕ) (n : ℤ) → IsDegree d → IsOrder n → xs ≡ kind_word kind ∷ spelled (pos d) ∷ spelled n ∷ rest → rest ≢ [] → IsPlace IsCommand (name_word SeriesName ∷ xs) 4
+place_series_end xs rest kind d n g o e some = rw e (behind IsCommand (series_words kind d n) rest ([], series_command kind d n g o) (record {
+  other = λ w ws more e c. no_more (tail (tail (tail (series_tail (kind_word kind ∷ spelled (pos d) ∷ spelled n ∷ w ∷ more) c.0 c.1).same)));
+  short = λ e. absurd (some e);
+}))
+
+pub words_of_series : (xs rest : List Word) (kind : Kind) (d : ℕ) (n : ℤ) → IsDegree d → IsOrder n → xs ≡ kind_word kind ∷ spelled (pos d) ∷ spelled n ∷ rest → rest ≡ [] → IsSeries (name_word SeriesName ∷ xs) kind d n
+words_of_series xs rest kind d n g o e z = record { through = g; order = o; same = rw (e, z) refl }
+
+-- the places after `generate`
+
+generate_command : (k : ℕ) → IsSide k → IsCommand (generate_words k)
+generate_command k s = (Generate k, record { within = s; same = refl })
+
+pub place_generate_side : (xs : List Word) → ((k : ℕ) (ws : List Word) → IsSide k → xs ≢ spelled (pos k) ∷ ws) → IsPlace IsCommand (name_word GenerateName ∷ xs) 1
+place_generate_side xs h = behind IsCommand (name_word GenerateName ∷ []) xs (spelled (pos 1) ∷ [], generate_command 1 one_side) (record {
+  other = λ w ws rest e c. let t = generate_tail (w ∷ rest) c.0 c.1 in h t.side ws t.within (e ∙ ap (λ v. v ∷ ws) (head t.same));
+  short = λ e c. let t = generate_tail [] c.0 c.1 in no_more (sym t.same);
 })
 
-pub place_end : (xs rest : List Word) (kind : Kind) (d : ℕ) (n : ℤ) → IsDegree d → IsOrder n → xs ≡ kind_word kind ∷ spelled (pos d) ∷ spelled n ∷ rest → rest ≢ [] → IsPlace IsCommand (codes "series" ∷ xs) 4
-place_end xs [] kind d n g o e ne = absurd (ne refl)
-place_end xs (w ∷ ws) kind d n g o e ne = rw e (record {
-  within = omega arith;
-  before = ([], command kind d n g o);
-  outside = λ p b. no_more w b.0 (tail (tail (tail (series_tail (kind_word kind ∷ spelled (pos d) ∷ spelled n ∷ w ∷ b.0) b.1).same)));
-  short = λ q c. absurd (omega arith);
+pub place_generate_end : (xs rest : List Word) (k : ℕ) → IsSide k → xs ≡ spelled (pos k) ∷ rest → rest ≢ [] → IsPlace IsCommand (name_word GenerateName ∷ xs) 2
+place_generate_end xs rest k s e some = rw e (behind IsCommand (generate_words k) rest ([], generate_command k s) (record {
+  other = λ w ws more e c. no_more (tail (generate_tail (spelled (pos k) ∷ w ∷ more) c.0 c.1).same);
+  short = λ e. absurd (some e);
+}))
+
+-- the places after `summary`
+
+summary_command : (k d : ℕ) (n : ℤ) → IsSide k → IsDegree d → IsOrder n → IsCommand (summary_words k d n)
+summary_command k d n s g h = (Summary k d n, record { within = s; through = g; order = h; same = refl })
+
+pub place_summary_side : (xs : List Word) → ((k : ℕ) (ws : List Word) → IsSide k → xs ≢ spelled (pos k) ∷ ws) → IsPlace IsCommand (name_word SummaryName ∷ xs) 1
+place_summary_side xs h = behind IsCommand (name_word SummaryName ∷ []) xs (spelled (pos 1) ∷ nought ∷ nought ∷ [], summary_command 1 0 (pos 0) one_side zero_degree zero_order) (record {
+  other = λ w ws rest e c. let t = summary_tail (w ∷ rest) c.0 c.1 in h t.side ws t.within (e ∙ ap (λ v. v ∷ ws) (head t.same));
+  short = λ e c. let t = summary_tail [] c.0 c.1 in no_more (sym t.same);
 })
 
-pub words_of_series : (xs rest : List Word) (kind : Kind) (d : ℕ) (n : ℤ) → IsDegree d → IsOrder n → xs ≡ kind_word kind ∷ spelled (pos d) ∷ spelled n ∷ rest → rest ≡ [] → IsSeries (codes "series" ∷ xs) kind d n
-words_of_series xs rest kind d n g o e z = record { through = g; order = o; same = ap (λ ws. codes "series" ∷ ws) (e ∙ ap (λ r. kind_word kind ∷ spelled (pos d) ∷ spelled n ∷ r) z) }
+pub place_summary_degree : (xs rest : List Word) (k : ℕ) → IsSide k → xs ≡ spelled (pos k) ∷ rest → ((d : ℕ) (ws : List Word) → IsDegree d → rest ≢ spelled (pos d) ∷ ws) → IsPlace IsCommand (name_word SummaryName ∷ xs) 2
+place_summary_degree xs rest k s e h = rw e (behind IsCommand (name_word SummaryName ∷ spelled (pos k) ∷ []) rest (nought ∷ nought ∷ [], summary_command k 0 (pos 0) s zero_degree zero_order) (record {
+  other = λ w ws more e c. let t = summary_tail (spelled (pos k) ∷ w ∷ more) c.0 c.1 in h t.degree ws t.through (e ∙ ap (λ v. v ∷ ws) (head (tail t.same)));
+  short = λ e c. let t = summary_tail (spelled (pos k) ∷ []) c.0 c.1 in no_more (sym (tail t.same));
+}))
+
+pub place_summary_order : (xs rest : List Word) (k d : ℕ) → IsSide k → IsDegree d → xs ≡ spelled (pos k) ∷ spelled (pos d) ∷ rest → ((z : ℤ) (ws : List Word) → IsOrder z → rest ≢ spelled z ∷ ws) → IsPlace IsCommand (name_word SummaryName ∷ xs) 3
+place_summary_order xs rest k d s g e h = rw e (behind IsCommand (name_word SummaryName ∷ spelled (pos k) ∷ spelled (pos d) ∷ []) rest (nought ∷ [], summary_command k d (pos 0) s g zero_order) (record {
+  other = λ w ws more e c. let t = summary_tail (spelled (pos k) ∷ spelled (pos d) ∷ w ∷ more) c.0 c.1 in h t.upto ws t.order (e ∙ ap (λ v. v ∷ ws) (head (tail (tail t.same))));
+  short = λ e c. let t = summary_tail (spelled (pos k) ∷ spelled (pos d) ∷ []) c.0 c.1 in no_more (sym (tail (tail t.same)));
+}))
+
+pub place_summary_end : (xs rest : List Word) (k d : ℕ) (n : ℤ) → IsSide k → IsDegree d → IsOrder n → xs ≡ spelled (pos k) ∷ spelled (pos d) ∷ spelled n ∷ rest → rest ≢ [] → IsPlace IsCommand (name_word SummaryName ∷ xs) 4
+place_summary_end xs rest k d n s g o e some = rw e (behind IsCommand (summary_words k d n) rest ([], summary_command k d n s g o) (record {
+  other = λ w ws more e c. no_more (tail (tail (tail (summary_tail (spelled (pos k) ∷ spelled (pos d) ∷ spelled n ∷ w ∷ more) c.0 c.1).same)));
+  short = λ e. absurd (some e);
+}))
+
+pub words_of_summary : (xs rest : List Word) (k d : ℕ) (n : ℤ) → IsSide k → IsDegree d → IsOrder n → xs ≡ spelled (pos k) ∷ spelled (pos d) ∷ spelled n ∷ rest → rest ≡ [] → IsSummaryOf (name_word SummaryName ∷ xs) k d n
+words_of_summary xs rest k d n s g o e z = record { within = s; through = g; order = o; same = rw (e, z) refl }
 
 -- words read one after another
+
 pub behind_one : {xs rest more : List Word} {a b : Word} → xs ≡ a ∷ rest → rest ≡ b ∷ more → xs ≡ a ∷ b ∷ more
 behind_one {a} p q = p ∙ ap (λ ws. a ∷ ws) q
 

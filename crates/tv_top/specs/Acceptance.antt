@@ -1,20 +1,23 @@
 -- Which bytes the program takes as a file, and the web that they give.
 --
--- begins_as_json bytes       == the first byte is `{`, a space, a tab, LF or CR
+-- ReadsAs json bytes w == as a file in JSON, or as a text, the bytes spell w, which is within the limits
+-- IsFile bytes w      == they do by their first byte
 -- turned_web file     == the web with the file's points and heights, and its triangles turned counter-clockwise
 -- IsSound file w      == the points are distinct and not all on one line, the triangles are unimodular and tile the hull,
 --                        there are as many heights as points, w is the file with its triangles turned, and every compact
 --                        edge of w has a degree of at least 1
--- IsAccepted bytes w  == no JSON, and a text that spells a file within the limits, which is sound with the web w
+-- IsAccepted bytes w  == the bytes spell a file within the limits, which is sound with the web w
 -- HasOtherHeights w k == the triangles tile, and there are k heights, not one for each point
 -- HasLowEdge w a b d  == the triangles tile, there is a height for each point, and the first compact edge of the turned
 --                        web whose degree is at most 0 is that from a to b, of degree d
 -- IsUnsoundBy w f     == f is the first of these checks that fails
 -- IsUnsound w e       == e is the first of these checks that fails, or want of memory
 -- IsLowEdge w e       == e names the first compact edge of the web whose degree is at most 0, or is want of memory
-use Rattle.std.specs.Prelude.{◌≡◌, ◌≢◌, ℕ, ℤ, List, [], ◌∷◌, length, Bool, false, ◌||◌, nat_eq, ⊤}
+use Rattle.std.specs.Prelude.{◌≡◌, ◌≢◌, ℕ, ℤ, List, length, Bool, true, false, ⊤}
 use Rattle.tv_spec_plane.specs.Web.{Web}
+use Rattle.tv_spec_json.specs.Files.{is_json}
 use Rattle.tv_text.specs.Faults.{IsText}
+use Rattle.tv_json.specs.Faults.{IsJson}
 use Rattle.tv_lattice.specs.declared.fault.FileFault.{FileFault}
 use Rattle.tv_lattice.specs.declared.fault.FileFault.TheVariants.{HeightCount, Degree}
 use Rattle.tv_lattice.specs.declared.fault.InputError.{InputError}
@@ -25,9 +28,12 @@ use Rattle.tv_triangulation.specs.Triangulated.{IsTiled}
 use Rattle.tv_degrees.specs.Grades.{IsFirstLow}
 use Rattle.tv_spec_plane.specs.Graded.{IsGraded}
 
-abbrev pub begins_as_json : List ℕ → Bool
-begins_as_json [] = false
-begins_as_json (b ∷ bytes) = nat_eq b 123 || (nat_eq b 32 || (nat_eq b 9 || (nat_eq b 10 || nat_eq b 13)))
+abbrev pub ReadsAs : Bool → List ℕ → Web → Type 0
+ReadsAs true bytes w = IsJson bytes w
+ReadsAs false bytes w = IsText bytes w
+
+abbrev pub IsFile : List ℕ → Web → Type 0
+IsFile bytes w = ReadsAs (is_json bytes) bytes w
 
 abbrev pub turned_web : Web → Web
 turned_web file = record file { triangles = turned file.points file.triangles }
@@ -40,21 +46,16 @@ pub record IsSound (file w : Web) : Type 0 where
 
 pub record IsAccepted (bytes : List ℕ) (w : Web) : Type 0 where
   pub file : Web
-  pub not_json : begins_as_json bytes ≡ false
-  pub text : IsText bytes file
+  pub read : IsFile bytes file
   pub sound : IsSound file w
 
-pub record HasOtherHeights (w : Web) (k : ℕ) : Type 0 where
-  pub tiled : IsTiled w.points w.triangles
-  pub count : k ≡ length w.heights
-  pub other : k ≢ length w.points
+abbrev pub HasOtherHeights : Web → ℕ → Type 0
+HasOtherHeights w k = IsTiled w.points w.triangles × (k ≡ length w.heights) × (k ≢ length w.points)
 
 -- degrees are looked at last
-pub record HasLowEdge (w : Web) (a b : ℕ) (d : ℤ) : Type 0 where
-  pub tiled : IsTiled w.points w.triangles
-  pub heights : length w.heights ≡ length w.points
-  pub number : ℕ
-  pub low : IsFirstLow (turned_web w) number a b d
+abbrev pub HasLowEdge : Web → ℕ → ℕ → ℤ → Type 0
+HasLowEdge w a b d =
+    IsTiled w.points w.triangles × (length w.heights ≡ length w.points) × ((number : ℕ) × IsFirstLow (turned_web w) number a b d)
 
 abbrev pub IsUnsoundBy : Web → FileFault → Type 0
 IsUnsoundBy w (HeightCount k) = HasOtherHeights w k

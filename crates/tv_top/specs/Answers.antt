@@ -4,39 +4,43 @@
 -- memory_text, read_text  == the texts of want of memory and of a failed read
 -- Gave io bytes           == these bytes were taken from the source without a fault, and where it tells its bytes, none are
 --                             left
--- DeservesDone ws io text  == the text is the report, for the command that the words ask for, of the accepted file that was
---                             read
+-- IsOver side io w         == w is the web of the file that was read, which is accepted; or that of the grid of that side, and
+--                             nothing was read
+-- IsOn ws io c w           == the words ask for the command c, and w is the web that it is about
+-- DeservesDone ws io text  == the text is the report of the command on that web
 -- DeservesWords ws io text == the text names the place at which the words leave every word list
--- DeservesFile ws io text  == the text names the first check that the file fails, of which all bytes were taken, or exactly
---                             MOST_BYTES + 1
--- DeservesWide ws io text  == the text names a bound of the command's work on the accepted file that passes 2^127 - 1
--- DeservesRead ws io text  == the words are a command's, one read failed, and the text is that of a failed read
+-- DeservesFile ws io text  == the command is about a file, and the text names the first check that it fails, of which all bytes
+--                             were taken, or exactly MOST_BYTES + 1
+-- DeservesWide ws io text  == the text names a bound of the command's work on that web that passes 2^127 - 1
+-- DeservesRead ws io text  == the command is about a file, one read failed, and the text is that of a failed read
 -- Deserves ws io status text == the status and its text are deserved by these words and this source
 -- Told out text status result == a beginning of the text was appended to the sink, in at most a write for each byte: all of
 --                             it, and the result is the status; or less, then one write failed, and it is WriteFault
 -- Reads ws io             == whatever is answered, at most MOST_BYTES + 1 bytes were taken from the source, from the front,
---                             in at most one read more than bytes, and nothing was read where the words are refused
+--                             in at most one read more than bytes, and nothing was read where the words are refused, or where
+--                             the command is about a grid
 -- Answers ws io out result == some status and text are deserved, and were told. Where a source or a sink doesn't tell its
 --                             bytes, what is said of them holds of None; a run can't ask whether they tell, so what it does
 --                             is the same over those that do. Want of memory is deserved always
-use Rattle.std.specs.Prelude.{◌≡◌, ℕ, ◌+◌, ◌≤◌, ◌⊎◌, pos, List, [], ◌∷◌, length, take, codes}
+use Rattle.std.specs.Prelude.{◌≡◌, ℕ, ◌+◌, ◌≤◌, ◌⊎◌, pos, List, [], ◌∷◌, length, take, codes, Option, Some, None}
 use Rattle.std.specs.Io.KnownBytes.{Appends, Consumes, IsAtEnd}
 use Rattle.tv_spec_plane.specs.Web.{Web}
 use Rattle.tv_spec_text.specs.Lines.{Word, Line, line_text, spelled}
 use Rattle.tv_spec_text.specs.Places.{IsPlace}
 use Rattle.tv_lattice.specs.declared.fault.FileFault.{FileFault}
+use Rattle.tv_spec_reports.specs.Grids.{grid}
 use Rattle.tv_text.specs.Refusals.{fault_line}
 use Rattle.tv_outside.specs.Faults.{RoseOnce}
 use Rattle.tv_outside.specs.Seen.{Seen}
 use Rattle.tv_outside.specs.Writing.{GivesAll, GivesPart}
-use Rattle.tv_top.specs.Commands.{Asks, IsCommand}
+use Rattle.tv_top.specs.Commands.{Asks, IsCommand, side_of}
 use Rattle.tv_top.specs.Acceptance.{IsAccepted}
 use Rattle.tv_top.specs.Rejections.{FaultOf}
 use Rattle.tv_top.specs.Reports.{IsReport, IsWide}
 use Rattle.tv_text.specs.declared.file.TheConstants.{MOST_BYTES}
 use Rattle.tv_top.specs.declared.command.Command.{Command}
 use Rattle.tv_top.specs.declared.status.Status.{Status}
-use Rattle.tv_top.specs.declared.status.Status.TheVariants.{Done, Words, File, Wide, Differs, Memory, ReadFault, WriteFault}
+use Rattle.tv_top.specs.declared.status.Status.TheVariants.{Done, Words, File, Wide, Memory, ReadFault, WriteFault}
 
 pub record Change : Type 0 where
   pub before : Seen
@@ -53,13 +57,18 @@ pub record Gave (io : Change) (bytes : List ℕ) : Type 0 where
   pub ended : IsAtEnd io.after.bytes
   pub kept : io.after.faults ≡ io.before.faults
 
+abbrev pub IsOver : Option ℕ → Change → Web → Type 0
+IsOver None io w = (bytes : List ℕ) × Gave io bytes × IsAccepted bytes w
+IsOver (Some side) io w = (io.after ≡ io.before) × (w ≡ grid side)
+
+pub record IsOn (ws : List Word) (io : Change) (command : Command) (web : Web) : Type 0 where
+  pub asked : Asks ws command
+  pub over : IsOver (side_of command) io web
+
 pub record DeservesDone (ws : List Word) (io : Change) (text : List ℕ) : Type 0 where
   pub command : Command
-  pub bytes : List ℕ
   pub web : Web
-  pub asked : Asks ws command
-  pub read : Gave io bytes
-  pub accepted : IsAccepted bytes web
+  pub on : IsOn ws io command web
   pub report : IsReport command web text
 
 pub record DeservesWords (ws : List Word) (io : Change) (text : List ℕ) : Type 0 where
@@ -72,6 +81,7 @@ pub record DeservesFile (ws : List Word) (io : Change) (text : List ℕ) : Type 
   pub bytes : List ℕ
   pub fault : FileFault
   pub asked : Asks ws command
+  pub file : side_of command ≡ None
   pub taken : Consumes io.before.bytes io.after.bytes bytes
   pub ended : (length bytes ≡ MOST_BYTES + 1) ⊎ ((length bytes ≤ MOST_BYTES) × IsAtEnd io.after.bytes)
   pub kept : io.after.faults ≡ io.before.faults
@@ -80,17 +90,16 @@ pub record DeservesFile (ws : List Word) (io : Change) (text : List ℕ) : Type 
 
 pub record DeservesWide (ws : List Word) (io : Change) (text : List ℕ) : Type 0 where
   pub command : Command
-  pub bytes : List ℕ
   pub web : Web
   pub refusal : Line
-  pub asked : Asks ws command
-  pub read : Gave io bytes
-  pub accepted : IsAccepted bytes web
+  pub on : IsOn ws io command web
   pub wide : IsWide command web refusal
   pub line : text ≡ line_text refusal
 
 pub record DeservesRead (ws : List Word) (io : Change) (text : List ℕ) : Type 0 where
-  pub asked : IsCommand ws
+  pub command : Command
+  pub asked : Asks ws command
+  pub file : side_of command ≡ None
   pub rose : RoseOnce io.before.faults io.after.faults
   pub line : text ≡ read_text
 
@@ -99,14 +108,12 @@ Deserves ws io Done text = DeservesDone ws io text
 Deserves ws io Words text = DeservesWords ws io text
 Deserves ws io File text = DeservesFile ws io text
 Deserves ws io Wide text = DeservesWide ws io text
-Deserves ws io Differs text = ⊥
 Deserves ws io Memory text = text ≡ memory_text
 Deserves ws io ReadFault text = DeservesRead ws io text
-Deserves ws io WriteFault text = ⊥
+Deserves ws io _ text = ⊥
 
 pub record Told (out : Change) (text : List ℕ) (status result : Status) : Type 0 where
   pub count : ℕ
-  pub within : count ≤ length text
   pub appended : Appends out.before.bytes out.after.bytes (take count text)
   pub ends : ((result ≡ status) × GivesAll out.before out.after count text)
       ⊎ ((result ≡ WriteFault) × GivesPart out.before out.after count text)
@@ -118,6 +125,7 @@ pub record Reads (ws : List Word) (io : Change) : Type 0 where
   pub calls : io.after.calls ≤ io.before.calls + length bytes + 1
   pub later : io.before.faults ≤ io.after.faults
   pub unread : (k : ℕ) → IsPlace IsCommand ws k → io.after ≡ io.before
+  pub made : (c : Command) (side : ℕ) → Asks ws c → side_of c ≡ Some side → io.after ≡ io.before
 
 pub record Answers (ws : List Word) (io : Change) (out : Change) (result : Status) : Type 0 where
   pub status : Status

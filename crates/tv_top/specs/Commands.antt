@@ -3,27 +3,35 @@
 -- IsBetween low high z == a number from low to high
 -- IsDegree d     == a number from 0 to MAX_DEGREE
 -- IsOrder z      == a number from MIN_ORDER to MAX_ORDER
+-- IsSide k       == a number from MIN_SIDE to MAX_SIDE
+-- name_word n    == the first word of a command
 -- check_words    == the word `check`
 -- series_words k d n == the word `series`, the kind, a degree and an order
+-- generate_words k == the word `generate` and the side of a grid
+-- summary_words k d n == the word `summary`, the side of a grid, a degree and an order
 -- IsSeries ws k d n  == the words of the series of a kind, in degrees through d, with exponents through n
+-- IsGenerate ws k == the words of the grid of that side
+-- IsSummaryOf ws k d n == the words of the summary of a grid in degrees through d, with exponents through n
 -- Asks ws c      == the words ask for the command
+-- side_of c      == the side of the grid that the command is about; None where it is about the file
 -- IsAsked c      == some words ask for the command
 -- IsCommand ws   == the words of some command
 -- IsWordsError ws e == e is the first place at which the words leave every word list
-use Rattle.std.specs.Prelude.{◌≡◌, ℕ, ℤ, pos, ◌≤ℤ◌, List, [], ◌∷◌, codes}
+use Rattle.std.specs.Prelude.{◌≡◌, ℕ, ℤ, pos, ◌≤ℤ◌, List, [], ◌∷◌, codes, Option, Some, None}
 use Rattle.tv_spec_text.specs.Lines.{Word, spelled}
 use Rattle.tv_spec_text.specs.Places.{IsPlace}
 use Rattle.tv_text.specs.declared.series.Kind.{Kind}
 use Rattle.tv_text.specs.Sections.{kind_word}
-use Rattle.tv_top.specs.declared.command.TheConstants.{MAX_DEGREE, MIN_ORDER, MAX_ORDER}
+use Rattle.tv_top.specs.declared.command.TheConstants.{MIN_SIDE, MAX_SIDE, MAX_DEGREE, MIN_ORDER, MAX_ORDER}
 use Rattle.tv_top.specs.declared.command.Command.{Command}
-use Rattle.tv_top.specs.declared.command.Command.TheVariants.{Check, Series}
+use Rattle.tv_top.specs.declared.command.Command.TheVariants.{Check, Series, Generate, Summary}
+use Rattle.tv_top.specs.declared.command.Name.{Name}
+use Rattle.tv_top.specs.declared.command.Name.TheVariants.{Check as CheckName, Series as SeriesName, Generate as GenerateName, Summary as SummaryName}
 use Rattle.tv_top.specs.declared.command.WordsError.{WordsError}
 use Rattle.tv_top.specs.declared.command.WordsError.TheVariants.{At}
 
-pub record IsBetween (low high z : ℤ) : Type 0 where
-  pub least : low ≤ℤ z
-  pub greatest : z ≤ℤ high
+abbrev pub IsBetween : ℤ → ℤ → ℤ → Type 0
+IsBetween low high z = (low ≤ℤ z) × (z ≤ℤ high)
 
 abbrev pub IsDegree : ℕ → Type 0
 IsDegree d = IsBetween (pos 0) MAX_DEGREE (pos d)
@@ -31,20 +39,53 @@ IsDegree d = IsBetween (pos 0) MAX_DEGREE (pos d)
 abbrev pub IsOrder : ℤ → Type 0
 IsOrder z = IsBetween MIN_ORDER MAX_ORDER z
 
+abbrev pub IsSide : ℕ → Type 0
+IsSide k = IsBetween MIN_SIDE MAX_SIDE (pos k)
+
+abbrev pub name_word : Name → Word
+name_word CheckName = codes "check"
+name_word SeriesName = codes "series"
+name_word GenerateName = codes "generate"
+name_word SummaryName = codes "summary"
+
 abbrev pub check_words : List Word
-check_words = codes "check" ∷ []
+check_words = name_word CheckName ∷ []
 
 abbrev pub series_words : Kind → ℕ → ℤ → List Word
-series_words kind degree upto = codes "series" ∷ kind_word kind ∷ spelled (pos degree) ∷ spelled upto ∷ []
+series_words kind degree upto = name_word SeriesName ∷ kind_word kind ∷ spelled (pos degree) ∷ spelled upto ∷ []
+
+abbrev pub generate_words : ℕ → List Word
+generate_words side = name_word GenerateName ∷ spelled (pos side) ∷ []
+
+abbrev pub summary_words : ℕ → ℕ → ℤ → List Word
+summary_words side degree upto = name_word SummaryName ∷ spelled (pos side) ∷ spelled (pos degree) ∷ spelled upto ∷ []
 
 pub record IsSeries (ws : List Word) (kind : Kind) (degree : ℕ) (upto : ℤ) : Type 0 where
   pub through : IsDegree degree
   pub order : IsOrder upto
   pub same : ws ≡ series_words kind degree upto
 
+pub record IsGenerate (ws : List Word) (side : ℕ) : Type 0 where
+  pub within : IsSide side
+  pub same : ws ≡ generate_words side
+
+pub record IsSummaryOf (ws : List Word) (side degree : ℕ) (upto : ℤ) : Type 0 where
+  pub within : IsSide side
+  pub through : IsDegree degree
+  pub order : IsOrder upto
+  pub same : ws ≡ summary_words side degree upto
+
 abbrev pub Asks : List Word → Command → Type 0
 Asks ws Check = ws ≡ check_words
 Asks ws (Series kind degree upto) = IsSeries ws kind degree upto
+Asks ws (Generate side) = IsGenerate ws side
+Asks ws (Summary side degree upto) = IsSummaryOf ws side degree upto
+
+abbrev pub side_of : Command → Option ℕ
+side_of Check = None
+side_of (Series kind degree upto) = None
+side_of (Generate side) = Some side
+side_of (Summary side degree upto) = Some side
 
 abbrev pub IsAsked : Command → Type 0
 IsAsked c = (ws : List Word) × Asks ws c

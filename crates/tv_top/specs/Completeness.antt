@@ -1,18 +1,21 @@
 -- What a run must answer, where nothing fails. It follows from what each status deserves, and says which answers are left.
 --
 -- Completes ws io out result == where no count of faults rises, and, for the first two, the source tells its bytes:
---   accepted: a command and an accepted file give Done, or Wide with its cause, or want of memory
---   refused:  a command and a file that is refused give File, or want of memory
+--   accepted: a command and a web that it is about, of an accepted file or of a grid, give Done, or Wide with its cause, or want
+--             of memory
+--   refused:  a command that is about a file, and a file that is refused, give File, or want of memory
 --   words:    words that are no command give Words, or want of memory, whatever the source holds
+-- IsGiven side io w   == w is the web of the accepted file that the source tells, or that of the grid of that side
 -- NothingFails io out == no count of faults rose in the call, and none stood at its last number
 -- IsTooWide c w       == a bound of the command's work on the web passes 2^127 - 1
-use Rattle.std.specs.Prelude.{◌≡◌, ◌⊎◌, ℕ, List, Some}
+use Rattle.std.specs.Prelude.{◌≡◌, ◌⊎◌, ℕ, List, Option, Some, None}
 use Rattle.tv_spec_plane.specs.Web.{Web}
 use Rattle.tv_spec_text.specs.Lines.{Word, Line}
 use Rattle.tv_spec_text.specs.Places.{IsPlace}
 use Rattle.tv_lattice.specs.declared.fault.FileFault.{FileFault}
 use Rattle.tv_outside.specs.Faults.{Rose}
-use Rattle.tv_top.specs.Commands.{Asks, IsCommand}
+use Rattle.tv_spec_reports.specs.Grids.{grid}
+use Rattle.tv_top.specs.Commands.{Asks, IsCommand, side_of}
 use Rattle.tv_top.specs.Acceptance.{IsAccepted}
 use Rattle.tv_top.specs.Reports.{IsWide}
 use Rattle.tv_top.specs.Rejections.{FaultOf}
@@ -20,6 +23,10 @@ use Rattle.tv_top.specs.Answers.{Change}
 use Rattle.tv_top.specs.declared.command.Command.{Command}
 use Rattle.tv_top.specs.declared.status.Status.{Status}
 use Rattle.tv_top.specs.declared.status.Status.TheVariants.{Done, Words, File, Wide, Memory}
+
+abbrev pub IsGiven : Option ℕ → Change → Web → Type 0
+IsGiven None io w = (bytes : List ℕ) × (io.before.bytes ≡ Some bytes) × IsAccepted bytes w
+IsGiven (Some side) io w = w ≡ grid side
 
 pub record NothingFails (io : Change) (out : Change) : Type 0 where
   pub reads : Rose io.before.faults io.after.faults → ⊥
@@ -29,8 +36,9 @@ abbrev pub IsTooWide : Command → Web → Type 0
 IsTooWide c w = (line : Line) × IsWide c w line
 
 pub record Completes (ws : List Word) (io : Change) (out : Change) (result : Status) : Type 0 where
-  pub accepted : (c : Command) (bytes : List ℕ) (w : Web) → Asks ws c → io.before.bytes ≡ Some bytes → IsAccepted bytes w
-      → NothingFails io out → (result ≡ Done) ⊎ (((result ≡ Wide) × IsTooWide c w) ⊎ (result ≡ Memory))
-  pub refused : (c : Command) (bytes : List ℕ) (f : FileFault) → Asks ws c → io.before.bytes ≡ Some bytes → FaultOf bytes f
-      → NothingFails io out → (result ≡ File) ⊎ (result ≡ Memory)
-  pub words : (k : ℕ) → IsPlace IsCommand ws k → (Rose out.before.faults out.after.faults → ⊥) → (result ≡ Words) ⊎ (result ≡ Memory)
+  pub accepted : (c : Command) (w : Web) → Asks ws c → IsGiven (side_of c) io w → NothingFails io out
+      → (result ≡ Done) ⊎ (((result ≡ Wide) × IsTooWide c w) ⊎ (result ≡ Memory))
+  pub refused : (c : Command) (bytes : List ℕ) (f : FileFault) → Asks ws c → side_of c ≡ None
+      → io.before.bytes ≡ Some bytes → FaultOf bytes f → NothingFails io out → (result ≡ File) ⊎ (result ≡ Memory)
+  pub words : (k : ℕ) → IsPlace IsCommand ws k → (Rose out.before.faults out.after.faults → ⊥)
+      → (result ≡ Words) ⊎ (result ≡ Memory)

@@ -1,30 +1,40 @@
 -- Why a file is refused.
 --
--- IsWebFault bytes f  == f is the first check of points, triangles, heights and degrees that fails, of a text within the
+-- RefusedAs json bytes e == as a file in JSON, or as a text, the bytes are refused by e
+-- IsFileFault bytes e == they are by their first byte
+-- IsWebFault bytes f  == f is the first check of points, triangles, heights and degrees that fails, of a file within the
 --                        limits
--- FaultOf bytes f     == f is the first check that the bytes fail: too long, JSON, the text and its limits, the web
+-- FaultOf bytes f     == f is the first check that the bytes fail: too long, the form and its limits, the web
 -- IsRefused bytes e   == e is the first check that fails, or want of memory
-use Rattle.std.specs.Prelude.{◌≡◌, ℕ, ◌<◌, ◌≤◌, List, length, true, false, ⊤}
+use Rattle.std.specs.Prelude.{ℕ, ◌<◌, List, length, Bool, true, false, ⊤}
 use Rattle.tv_spec_plane.specs.Web.{Web}
 use Rattle.tv_lattice.specs.declared.fault.FileFault.{FileFault}
 use Rattle.tv_lattice.specs.declared.fault.FileFault.TheVariants.{TooLong, Json, Line, TooMany}
 use Rattle.tv_lattice.specs.declared.fault.InputError.{InputError}
 use Rattle.tv_lattice.specs.declared.fault.InputError.TheVariants.{Fault as Refusal, Memory}
-use Rattle.tv_text.specs.Faults.{IsText, IsTextFault}
-use Rattle.tv_top.specs.Acceptance.{begins_as_json, IsUnsoundBy}
+use Rattle.tv_spec_json.specs.Files.{is_json}
+use Rattle.tv_text.specs.Faults.{IsTextFault}
+use Rattle.tv_json.specs.Faults.{IsJsonFault}
+use Rattle.tv_top.specs.Acceptance.{IsFile, IsUnsoundBy}
 use Rattle.tv_text.specs.declared.file.TheConstants.{MOST_BYTES}
+
+abbrev pub RefusedAs : Bool → List ℕ → InputError → Type 0
+RefusedAs true bytes e = IsJsonFault bytes e
+RefusedAs false bytes e = IsTextFault bytes e
+
+abbrev pub IsFileFault : List ℕ → InputError → Type 0
+IsFileFault bytes e = RefusedAs (is_json bytes) bytes e
 
 pub record IsWebFault (bytes : List ℕ) (f : FileFault) : Type 0 where
   pub web : Web
-  pub not_json : begins_as_json bytes ≡ false
-  pub text : IsText bytes web
+  pub read : IsFile bytes web
   pub unsound : IsUnsoundBy web f
 
 abbrev pub FaultOf : List ℕ → FileFault → Type 0
 FaultOf bytes TooLong = MOST_BYTES < length bytes
-FaultOf bytes Json = (length bytes ≤ MOST_BYTES) × (begins_as_json bytes ≡ true)
-FaultOf bytes (Line n) = (begins_as_json bytes ≡ false) × IsTextFault bytes (Refusal (Line n))
-FaultOf bytes (TooMany e) = (begins_as_json bytes ≡ false) × IsTextFault bytes (Refusal (TooMany e))
+FaultOf bytes (Line n) = IsFileFault bytes (Refusal (Line n))
+FaultOf bytes Json = IsFileFault bytes (Refusal Json)
+FaultOf bytes (TooMany e) = IsFileFault bytes (Refusal (TooMany e))
 FaultOf bytes f = IsWebFault bytes f
 
 abbrev pub IsRefused : List ℕ → InputError → Type 0

@@ -3,6 +3,8 @@
 -- Says r status line          == the answer has the status and the line; a failure is want of memory
 -- IsPrinted k f text          == the text is the report of the family f, of which each coefficient is small
 -- Prints k f r                == the answer is Done with that text; a failure is want of memory
+-- IsSummed k d n f text        == the text is the summary of the sections of the family f, as one of grid k
+-- Summarizes k d n f r        == the answer is Done with that text; a failure is want of memory
 -- CarriesOut c w status text  == the status and the text are deserved by the command over this web
 -- IsCarriedOut c w r          == the answer is so; a failure is want of memory
 -- Judges c bytes status text  == the status and the text are deserved by these bytes, all of the source
@@ -20,6 +22,7 @@ use Rattle.tv_text.specs.declared.series.Kind.{Kind}
 use Rattle.tv_text.specs.Sections.{kind_word}
 use Rattle.tv_reports.specs.Sections.{IsSmall, sections_of}
 use Rattle.tv_lattice.specs.declared.fault.FileFault.{FileFault}
+use Rattle.tv_spec_reports.specs.Summaries.{Summary, IsSummary, summary_text}
 use Rattle.tv_text.specs.Refusals.{fault_line}
 use Rattle.tv_top.specs.Acceptance.{IsAccepted}
 use Rattle.tv_top.specs.Reports.{IsReport, IsWide}
@@ -42,6 +45,15 @@ pub record IsPrinted (kind : Kind) (f : Family ℤ) (text : List ℕ) : Type 0 w
 
 abbrev pub Prints : Kind → Family ℤ → Result Answer Failure → Type 0
 Prints kind f r = MatchResult r (λ a. (a.status ≡ Done) × IsPrinted kind f a.text.items) (λ e. e ≡ Memory)
+
+pub record IsSummed (side degree : ℕ) (upto : ℤ) (f : Family ℤ) (text : List ℕ) : Type 0 where
+  pub family : IsFamily IsAny wholes f
+  pub summary : Summary
+  pub sums : IsSummary side degree upto (sections_of f) summary
+  pub printed : text ≡ summary_text summary
+
+abbrev pub Summarizes : ℕ → ℕ → ℤ → Family ℤ → Result Answer Failure → Type 0
+Summarizes side degree upto f r = MatchResult r (λ a. (a.status ≡ Done) × IsSummed side degree upto f a.text.items) (λ e. e ≡ Memory)
 
 abbrev pub CarriesOut : Command → Web → Status → List ℕ → Type 0
 CarriesOut c w Done text = IsReport c w text

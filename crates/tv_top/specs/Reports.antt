@@ -1,4 +1,4 @@
--- What each command answers to an accepted web: one row for each command.
+-- What each command answers to the web that it is about: one row for each command.
 --
 -- IsSeriesReport k w d n text == the text is the report of the series of that kind
 -- IsCrowdLine w d n line  == the line names a class that has too many configurations
@@ -6,7 +6,7 @@
 --                            large
 -- IsSeriesWide k w d n line == a bound of the work on the series of that kind passes 2^127 - 1, and the line names where. The
 --                            bounds are this project's own: one may pass it though each coefficient is small
--- IsReport c w text == the text is the command's report of the web
+-- IsReport c w text == the text is the command's report of the web, which is the grid where the command names one
 -- IsWide c w line   == a bound of the command's work passes 2^127 - 1, and the line names some place where it does
 use Rattle.std.specs.Prelude.{◌≡◌, ◌⊎◌, ℕ, ℤ, List}
 use Rattle.tv_spec_plane.specs.Web.{Web}
@@ -14,10 +14,12 @@ use Rattle.tv_spec_text.specs.Lines.{Line}
 use Rattle.tv_spec_text.specs.Checks.{check_text}
 use Rattle.tv_text.specs.declared.series.Kind.{Kind}
 use Rattle.tv_text.specs.declared.series.Kind.TheVariants.{Full, Reduced}
+use Rattle.tv_spec_reports.specs.Grids.{grid_text}
+use Rattle.tv_spec_reports.specs.SummaryReport.{IsSummaryReport}
 use Rattle.tv_text.specs.Refusals.{crowd_line, spread_line}
 use Rattle.tv_top.specs.SeriesReport.{IsFullReport, IsReducedReport, IsCrowded, IsSpreadOut}
 use Rattle.tv_top.specs.declared.command.Command.{Command}
-use Rattle.tv_top.specs.declared.command.Command.TheVariants.{Check, Series}
+use Rattle.tv_top.specs.declared.command.Command.TheVariants.{Check, Series, Generate, Summary}
 
 abbrev pub IsSeriesReport : Kind → Web → ℕ → ℤ → List ℕ → Type 0
 IsSeriesReport Full w degree upto text = IsFullReport w degree upto text
@@ -36,7 +38,11 @@ IsSeriesWide Reduced w degree upto line = IsCrowdLine w degree upto line ⊎ IsS
 abbrev pub IsReport : Command → Web → List ℕ → Type 0
 IsReport Check w text = text ≡ check_text w
 IsReport (Series kind degree upto) w text = IsSeriesReport kind w degree upto text
+IsReport (Generate side) w text = text ≡ grid_text side
+IsReport (Summary side degree upto) w text = IsSummaryReport side degree upto text
 
 abbrev pub IsWide : Command → Web → Line → Type 0
 IsWide Check w line = ⊥
 IsWide (Series kind degree upto) w line = IsSeriesWide kind w degree upto line
+IsWide (Generate side) w line = ⊥
+IsWide (Summary side degree upto) w line = IsCrowdLine w degree upto line

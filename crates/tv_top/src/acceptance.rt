@@ -7,49 +7,54 @@ ghost use Rattle.tv_triangulation.specs.Faults.{IsAccepted as PassesChecks};
 ghost use Rattle.tv_web.specs.Built.{bare_web};
 ghost use Rattle.tv_degrees.specs.Edges.{with_heights};
 ghost use Rattle.tv_spec_plane.specs.Graded.{IsGraded};
-ghost use Rattle.tv_top.specs.Acceptance.{begins_as_json, IsAccepted, IsSound, IsUnsound, IsLowEdge};
-ghost use Rattle.tv_top.specs.Rejections.{IsRefused};
+ghost use Rattle.tv_spec_json.specs.Files.{is_json};
+ghost use Rattle.tv_top.specs.Acceptance.{IsFile, IsAccepted, IsSound, IsUnsound, IsLowEdge};
+ghost use Rattle.tv_top.specs.Rejections.{IsFileFault, IsRefused};
 
 use std::alloc::Global;
 use tv_degrees::fault::DegreeFault;
 use tv_degrees::grade::{GradedWeb, grade};
+use tv_json::file::read_json;
 use tv_lattice::fault::{FileFault, InputError};
 use tv_lattice::file::FileData;
-use tv_text::file::{MOST_BYTES, read_file};
+use tv_text::file::read_file;
 use tv_triangulation::Triangulation;
 use tv_triangulation::triangulate::triangulate;
 use tv_web::web::build_web;
 
-/// The web of the file that the bytes spell, with its triangles turned counter-clockwise. The checks come in the order:
-/// too long, JSON, the grammar, the limits, the points and triangles, the number of heights, the degrees.
+/// The web of the file that the bytes spell, with its triangles turned counter-clockwise. Bytes that begin with `{`, a space, a
+/// tab, LF or CR are taken as JSON, all others as a text. The checks come in the order: too long, the form, the limits, the
+/// points and triangles, the number of heights, the degrees.
 pub fn accept(alloc: Global, bytes: &[u8]) -> Result<GradedWeb, InputError>
     ensures { MatchResult result (IsAccepted bytes.now) (IsRefused bytes.now) }
 {
-    if bytes.len() > MOST_BYTES {
-        return Err(InputError::Fault(FileFault::TooLong));
-    }
-    if begins_as_json(bytes) {
-        return Err(InputError::Fault(FileFault::Json));
-    }
-    match read_file(alloc, bytes) {
+    match file_of(alloc, bytes) {
         Ok(file) => web_of(alloc, file),
         Err(error) => Err(error),
     }
 }
 
-fn begins_as_json(bytes: &[u8]) -> bool
-    ensures { result ≡ begins_as_json bytes.now }
+fn file_of(alloc: Global, bytes: &[u8]) -> Result<FileData, InputError>
+    ensures { MatchResult result (IsFile bytes.now) (IsFileFault bytes.now) }
+{
+    if is_json(bytes) {
+        read_json(alloc, bytes)
+    } else {
+        read_file(alloc, bytes)
+    }
+}
+
+fn is_json(bytes: &[u8]) -> bool
+    ensures { result ≡ is_json bytes.now }
 {
     match bytes.first() {
-        Some(byte) => {
-            *byte == b'{'
-                || (*byte == b' ' || (*byte == b'\t' || (*byte == b'\n' || *byte == b'\r')))
-        }
+        Some(byte) => matches!(*byte, b'{' | b' ' | b'\t' | b'\n' | b'\r'),
         None => false,
     }
 }
 
-fn web_of(alloc: Global, file: FileData) -> Result<GradedWeb, InputError>
+/// The web of a file, or the first check of points, triangles, heights and degrees that fails.
+pub(crate) fn web_of(alloc: Global, file: FileData) -> Result<GradedWeb, InputError>
     ensures { MatchResult result (IsSound file) (IsUnsound file) }
 {
     match triangulate(alloc, &file.points, &file.triangles) {

@@ -3,11 +3,17 @@
 ghost use Rattle.std.specs.Prelude.{◌≡◌, ◌≢◌, ◌∷◌, ℕ, ℤ, pos, List, map, codes, MatchResult, MatchOption, IsTrue, ◌↔◌, string_bytes};
 ghost use Rattle.tv_spec_text.specs.Lines.{spelled, IsNumber};
 ghost use Rattle.tv_text.specs.Sections.{kind_word};
-ghost use Rattle.tv_top.specs.Commands.{IsBetween, IsDegree, Asks, IsWordsError};
+ghost use Rattle.tv_top.specs.Commands.{IsBetween, IsSide, IsDegree, name_word, Asks, IsWordsError};
 
 use thiserror::Error;
 use tv_text::number::number;
 use tv_text::series::Kind;
+
+/// The least side of a grid that words may ask for.
+pub const MIN_SIDE: i64 = 1;
+
+/// The greatest side of a grid that words may ask for.
+pub const MAX_SIDE: i64 = 7;
 
 /// The greatest degree that words may ask for. The least is 0.
 pub const MAX_DEGREE: i64 = 24;
@@ -25,6 +31,24 @@ pub enum Command {
     Check,
     /// The series of that kind in degrees through `degree` (0 to 24), with exponents through `upto` (-64 to 64).
     Series { kind: Kind, degree: u32, upto: i64 },
+    /// The file of the grid with `side` (1 to 7) unit squares along a side.
+    Generate { side: u32 },
+    /// What the report of that grid's full series, in degrees through `degree` (0 to 24) and with exponents through `upto` (-64 to
+    /// 64), counts and sums.
+    Summary { side: u32, degree: u32, upto: i64 },
+}
+
+/// The first word of a command.
+#[derive(Clone, Copy, Debug, PartialEq, Eq)]
+pub(crate) enum Name {
+    /// `check`
+    Check,
+    /// `series`
+    Series,
+    /// `generate`
+    Generate,
+    /// `summary`
+    Summary,
 }
 
 /// Why words ask for nothing.
@@ -40,18 +64,20 @@ pub enum WordsError {
 pub fn parse_words(words: &[String]) -> Result<Command, WordsError>
     ensures { MatchResult result (Asks (map string_bytes words.now)) (IsWordsError (map string_bytes words.now)) }
 {
-    match after_word(words, "check") {
-        Some(rest) => check(rest),
-        None => match after_word(words, "series") {
-            Some(rest) => series(rest),
-            None => Err(WordsError::At(0)),
-        },
+    let Some((name, rest)) = after_name(words) else {
+        return Err(WordsError::At(0));
+    };
+    match name {
+        Name::Check => check(rest),
+        Name::Series => series(rest),
+        Name::Generate => generate(rest),
+        Name::Summary => summary(rest),
     }
 }
 
 // The command of the word `check` and what follows it.
 fn check(rest: &[String]) -> Result<Command, WordsError>
-    ensures { let words = codes "check" ∷ map string_bytes rest.now in MatchResult result (Asks words) (IsWordsError words) }
+    ensures { let words = name_word Name.Check ∷ map string_bytes rest.now in MatchResult result (Asks words) (IsWordsError words) }
 {
     if !rest.is_empty() {
         return Err(WordsError::At(1));
@@ -61,7 +87,7 @@ fn check(rest: &[String]) -> Result<Command, WordsError>
 
 // The command of the word `series` and what follows it.
 fn series(rest: &[String]) -> Result<Command, WordsError>
-    ensures { let words = codes "series" ∷ map string_bytes rest.now in MatchResult result (Asks words) (IsWordsError words) }
+    ensures { let words = name_word Name.Series ∷ map string_bytes rest.now in MatchResult result (Asks words) (IsWordsError words) }
 {
     let Some((kind, degrees)) = after_kind(rest) else {
         return Err(WordsError::At(1));
@@ -76,6 +102,63 @@ fn series(rest: &[String]) -> Result<Command, WordsError>
         return Err(WordsError::At(4));
     }
     Ok(Command::Series { kind, degree, upto })
+}
+
+// The command of the word `generate` and what follows it.
+fn generate(rest: &[String]) -> Result<Command, WordsError>
+    ensures { let words = name_word Name.Generate ∷ map string_bytes rest.now in MatchResult result (Asks words) (IsWordsError words) }
+{
+    let Some((side, rest)) = after_side(rest) else {
+        return Err(WordsError::At(1));
+    };
+    if !rest.is_empty() {
+        return Err(WordsError::At(2));
+    }
+    Ok(Command::Generate { side })
+}
+
+// The command of the word `summary` and what follows it.
+fn summary(rest: &[String]) -> Result<Command, WordsError>
+    ensures { let words = name_word Name.Summary ∷ map string_bytes rest.now in MatchResult result (Asks words) (IsWordsError words) }
+{
+    let Some((side, degrees)) = after_side(rest) else {
+        return Err(WordsError::At(1));
+    };
+    let Some((degree, orders)) = after_degree(degrees) else {
+        return Err(WordsError::At(2));
+    };
+    let Some((upto, rest)) = after_number(orders, MIN_ORDER, MAX_ORDER) else {
+        return Err(WordsError::At(3));
+    };
+    if !rest.is_empty() {
+        return Err(WordsError::At(4));
+    }
+    Ok(Command::Summary {
+        side,
+        degree,
+        upto,
+    })
+}
+
+// The command that the first word names, and what follows it.
+fn after_name<'a>(words: &'a [String]) -> Option<(Name, &'a [String])>
+    ensures { MatchOption result
+        ((name : Name) (ws : List (List ℕ)) → map string_bytes words.now ≢ name_word name ∷ ws)
+        (λ r. map string_bytes words.now ≡ name_word r.0 ∷ map string_bytes r.1.now) }
+{
+    if let Some(rest) = after_word(words, "check") {
+        return Some((Name::Check, rest));
+    }
+    if let Some(rest) = after_word(words, "series") {
+        return Some((Name::Series, rest));
+    }
+    if let Some(rest) = after_word(words, "generate") {
+        return Some((Name::Generate, rest));
+    }
+    match after_word(words, "summary") {
+        Some(rest) => Some((Name::Summary, rest)),
+        None => None,
+    }
 }
 
 // The kind of series that the first word names, and what follows it.
@@ -111,6 +194,18 @@ fn is_word(word: &String, text: &str) -> bool
     ensures { IsTrue result ↔ (string_bytes word.now ≡ text.now) }
 {
     word.as_str() == text
+}
+
+// The side of a grid that the first word spells, and what follows it.
+fn after_side<'a>(words: &'a [String]) -> Option<(u32, &'a [String])>
+    ensures { MatchOption result
+        ((k : ℕ) (ws : List (List ℕ)) → IsSide k → map string_bytes words.now ≢ spelled (pos k) ∷ ws)
+        (λ r. IsSide r.0 × (map string_bytes words.now ≡ spelled (pos r.0) ∷ map string_bytes r.1.now)) }
+{
+    match after_number(words, MIN_SIDE, MAX_SIDE) {
+        Some((side, rest)) => Some((side as u32, rest)),
+        None => None,
+    }
 }
 
 // The degree that the first word spells, and what follows it.

@@ -6,6 +6,7 @@ mod acceptance;
 mod answer;
 mod check;
 mod command;
+mod grids;
 pub mod laws;
 mod reply;
 mod running;
@@ -16,6 +17,8 @@ mod telling;
 mod tests;
 
 pub use acceptance::accept;
-pub use command::{Command, MAX_DEGREE, MAX_ORDER, MIN_ORDER, WordsError, parse_words};
+pub use command::{
+    Command, MAX_DEGREE, MAX_ORDER, MAX_SIDE, MIN_ORDER, MIN_SIDE, WordsError, parse_words,
+};
 pub use running::run;
 pub use status::Status;

@@ -78,7 +78,8 @@ fn print(alloc: Global, kind: Kind, series: &Graded<Whole>) -> Result<Answer, Fa
     }
 }
 
-fn too_crowded(alloc: Global, class: Class) -> Result<Answer, Failure>
+/// The refusal of a class that has too many configurations.
+pub(crate) fn too_crowded(alloc: Global, class: Class) -> Result<Answer, Failure>
     ensures { Says result Status.Wide (crowd_line class) }
 {
     refuse(

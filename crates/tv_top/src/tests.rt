@@ -155,3 +155,36 @@ fn prints_the_series_of_the_resolved_conifold(rt: HostRuntime) -> Result<(), Fai
     assert!(rt; to.bytes() == CONIFOLD_SERIES);
     Ok(())
 }
+
+const GRID: &[u8] =
+    b"tv 1\npoint 0 0\npoint 1 0\npoint 0 1\npoint 1 1\ntriangle 0 1 3\ntriangle 0 3 2\nheights 0 1 1 1\nend\n";
+
+const SUMMARY: &[u8] =
+    b"report summary\ngrid 1\ndegree 0\nupto 4\nclasses 1\nterms 5\nzero 47\nsum 35\nend\n";
+
+// The source would fail at once.
+#[test]
+fn a_grid_reads_nothing(rt: HostRuntime) -> Result<(), Fail> {
+    let alloc = rt.alloc();
+    let words = words(alloc, &["generate", "1"])?;
+    let mut from = source(alloc, &[0])?;
+    let mut to = sink(alloc, 10, &[])?;
+    let status = run(alloc, &words, &mut from, &mut to);
+    assert!(rt; status == Status::Done);
+    assert!(rt; to.bytes() == GRID);
+    assert_eq!(rt; from.faults(), 0);
+    Ok(())
+}
+
+#[test]
+fn a_summary_reads_nothing(rt: HostRuntime) -> Result<(), Fail> {
+    let alloc = rt.alloc();
+    let words = words(alloc, &["summary", "1", "0", "4"])?;
+    let mut from = source(alloc, &[0])?;
+    let mut to = sink(alloc, 10, &[])?;
+    let status = run(alloc, &words, &mut from, &mut to);
+    assert!(rt; status == Status::Done);
+    assert!(rt; to.bytes() == SUMMARY);
+    assert_eq!(rt; from.faults(), 0);
+    Ok(())
+}

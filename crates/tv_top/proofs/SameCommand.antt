@@ -1,0 +1,84 @@
+-- Words ask for one command at most.
+use Rattle.std.proofs.Common.{◌≡◌, ℕ, ℤ, pos, List, ◌∷◌, length, refl, ap, sym, ◌∙◌, arith}
+use Rattle.std.proofs.lemmas.Int.{ints}
+use Rattle.tv_spec_text.specs.Lines.{Word, spelled}
+use Rattle.tv_spec_text.proofs.Readings.{spelled_injective}
+use Rattle.tv_text.specs.declared.series.Kind.{Kind}
+use Rattle.tv_text.specs.declared.series.Kind.TheVariants.{Full, Reduced}
+use Rattle.tv_text.specs.Sections.{kind_word}
+use Rattle.tv_top.specs.Commands.{IsSide, IsDegree, IsOrder, IsSeries, IsGenerate, IsSummaryOf, Asks}
+use Rattle.tv_top.specs.declared.command.TheConstants.{MIN_SIDE, MAX_SIDE, MAX_DEGREE, MIN_ORDER, MAX_ORDER}
+use Rattle.tv_top.specs.declared.command.Command.{Command}
+use Rattle.tv_top.specs.declared.command.Command.TheVariants.{Check, Series, Generate, Summary}
+use Rattle.tv_top.proofs.WordPlaces.{same_name, name_of, asks_words}
+use Rattle.tv_top.proofs.Between.{between_is_number}
+
+first_word : {a b : Word} {us vs : List Word} → a ∷ us ≡ b ∷ vs → a ≡ b
+first_word e = cc
+
+later_words : {a b : Word} {us vs : List Word} → a ∷ us ≡ b ∷ vs → us ≡ vs
+later_words e = cc
+
+full_or_reduced : kind_word Full ≡ kind_word Reduced → ⊥
+full_or_reduced e = let lengths : length (kind_word Full) ≡ length (kind_word Reduced) = ap length e in absurd (omega arith)
+
+same_kind : (k l : Kind) → kind_word k ≡ kind_word l → k ≡ l
+same_kind Full Full e = refl
+same_kind Full Reduced e = absurd (full_or_reduced e)
+same_kind Reduced Full e = absurd (full_or_reduced (sym e))
+same_kind Reduced Reduced e = refl
+
+same_degree : (d e : ℕ) → IsDegree d → IsDegree e → spelled (pos d) ≡ spelled (pos e) → d ≡ e
+same_degree d e p q s =
+    let same : pos d ≡ pos e = spelled_injective (pos d) (pos e) (between_is_number (pos 0) MAX_DEGREE (pos d) (omega arith) (omega arith) p) (between_is_number (pos 0) MAX_DEGREE (pos e) (omega arith) (omega arith) q) s in
+    omega (arith, ints)
+
+same_order : (y z : ℤ) → IsOrder y → IsOrder z → spelled y ≡ spelled z → y ≡ z
+same_order y z p q s = spelled_injective y z (between_is_number MIN_ORDER MAX_ORDER y (omega arith) (omega arith) p) (between_is_number MIN_ORDER MAX_ORDER z (omega arith) (omega arith) q) s
+
+same_side : (k l : ℕ) → IsSide k → IsSide l → spelled (pos k) ≡ spelled (pos l) → k ≡ l
+same_side k l p q s =
+    let same : pos k ≡ pos l = spelled_injective (pos k) (pos l) (between_is_number MIN_SIDE MAX_SIDE (pos k) (omega arith) (omega arith) p) (between_is_number MIN_SIDE MAX_SIDE (pos l) (omega arith) (omega arith) q) s in
+    omega (arith, ints)
+
+same_series : (ws : List Word) (k l : Kind) (d e : ℕ) (y z : ℤ) → IsSeries ws k d y → IsSeries ws l e z → Series k d y ≡ Series l e z
+same_series ws k l d e y z p q =
+    let words = later_words (sym p.same ∙ q.same) in
+    let kinds = same_kind k l (first_word words) in
+    let degrees = same_degree d e p.through q.through (first_word (later_words words)) in
+    let orders = same_order y z p.order q.order (first_word (later_words (later_words words))) in
+    cc
+
+same_generate : (ws : List Word) (k l : ℕ) → IsGenerate ws k → IsGenerate ws l → Generate k ≡ Generate l
+same_generate ws k l p q = ap Generate (same_side k l p.within q.within (first_word (later_words (sym p.same ∙ q.same))))
+
+same_summary : (ws : List Word) (k l d e : ℕ) (y z : ℤ) → IsSummaryOf ws k d y → IsSummaryOf ws l e z → Summary k d y ≡ Summary l e z
+same_summary ws k l d e y z p q =
+    let words = later_words (sym p.same ∙ q.same) in
+    let sides = same_side k l p.within q.within (first_word words) in
+    let degrees = same_degree d e p.through q.through (first_word (later_words words)) in
+    let orders = same_order y z p.order q.order (first_word (later_words (later_words words))) in
+    cc
+
+-- two commands of other names are asked for by other words
+names_of_words : (ws : List Word) (c d : Command) → Asks ws c → Asks ws d → name_of c ≡ name_of d
+names_of_words ws c d p q = same_name (name_of c) (name_of d) (first_word (sym (asks_words ws c p) ∙ asks_words ws d q))
+
+-- words ask for one command
+pub same_command : (ws : List Word) (c d : Command) → Asks ws c → Asks ws d → c ≡ d
+same_command ws Check Check p q = refl
+same_command ws (Series k d y) (Series l e z) p q = same_series ws k l d e y z p q
+same_command ws (Generate k) (Generate l) p q = same_generate ws k l p q
+same_command ws (Summary k d y) (Summary l e z) p q = same_summary ws k l d e y z p q
+same_command ws Check (Series k d n) p q = let names = names_of_words ws Check (Series k d n) p q in cc
+same_command ws Check (Generate l) p q = let names = names_of_words ws Check (Generate l) p q in cc
+same_command ws Check (Summary m e o) p q = let names = names_of_words ws Check (Summary m e o) p q in cc
+same_command ws (Series k d n) Check p q = let names = names_of_words ws (Series k d n) Check p q in cc
+same_command ws (Series k d n) (Generate l) p q = let names = names_of_words ws (Series k d n) (Generate l) p q in cc
+same_command ws (Series k d n) (Summary m e o) p q = let names = names_of_words ws (Series k d n) (Summary m e o) p q in cc
+same_command ws (Generate l) Check p q = let names = names_of_words ws (Generate l) Check p q in cc
+same_command ws (Generate l) (Series k d n) p q = let names = names_of_words ws (Generate l) (Series k d n) p q in cc
+same_command ws (Generate l) (Summary m e o) p q = let names = names_of_words ws (Generate l) (Summary m e o) p q in cc
+same_command ws (Summary m e o) Check p q = let names = names_of_words ws (Summary m e o) Check p q in cc
+same_command ws (Summary m e o) (Series k d n) p q = let names = names_of_words ws (Summary m e o) (Series k d n) p q in cc
+same_command ws (Summary m e o) (Generate l) p q = let names = names_of_words ws (Summary m e o) (Generate l) p q in cc
