@@ -1,0 +1,3 @@
+pub mod BelowSums
+pub mod Multiplied
+pub mod Powers

@@ -1,0 +1,32 @@
+-- Products of whole numbers.
+--
+-- mul-mul      a product of three; mul-middle, with the first two exchanged
+-- add-mul      a sum in front; mul-neg, an opposite behind
+use Rattle.std.specs.Prelude.{◌≡◌, ℤ, ◌+ℤ◌, ◌*ℤ◌, neg_ℤ}
+use Rattle.std.proofs.Common.{arith}
+use Rattle.tv_lemmas.proofs.Integers.{diff_of, diffs, diff-same}
+
+pub mul-mul : (a b c : ℤ) → (a *ℤ b) *ℤ c ≡ a *ℤ (b *ℤ c)
+mul-mul a b c =
+    let r = diff_of a in let s = diff_of b in let t = diff_of c in
+    rw (r.2, s.2, t.2) (simp diffs (diff-same _ _ _ _ (omega arith)))
+
+pub mul-middle : (a b c : ℤ) → a *ℤ (b *ℤ c) ≡ b *ℤ (a *ℤ c)
+mul-middle a b c =
+    let r = diff_of a in let s = diff_of b in let t = diff_of c in
+    rw (r.2, s.2, t.2) (simp diffs (diff-same _ _ _ _ (omega arith)))
+
+pub add-mul : (a b c : ℤ) → (a +ℤ b) *ℤ c ≡ (a *ℤ c) +ℤ (b *ℤ c)
+add-mul a b c =
+    let r = diff_of a in let s = diff_of b in let t = diff_of c in
+    rw (r.2, s.2, t.2) (simp diffs (diff-same _ _ _ _ (omega arith)))
+
+pub mul-neg : (a b : ℤ) → a *ℤ neg_ℤ b ≡ neg_ℤ (a *ℤ b)
+mul-neg a b =
+    let r = diff_of a in let s = diff_of b in
+    rw (r.2, s.2) (simp diffs (diff-same _ _ _ _ (omega arith)))
+
+pub neg-pull : (s x d : ℤ) → x *ℤ (neg_ℤ s *ℤ d) ≡ neg_ℤ (s *ℤ (x *ℤ d))
+neg-pull s x d =
+    let r = diff_of s in let t = diff_of x in let u = diff_of d in
+    rw (r.2, t.2, u.2) (simp diffs (diff-same _ _ _ _ (omega arith)))
