@@ -7,11 +7,10 @@
 -- power_at-next    the coefficient of X^(k + 1) by that of X^k
 use Rattle.std.specs.Prelude.{◌≡◌, ◌⊎◌, ℕ, zero, suc, ◌+◌, ◌*◌, ◌%◌, ◌<◌, ℤ, pos, negsuc, ◌-ℤ◌, ◌*ℤ◌, neg_ℤ, Bool, true, false, cond, nat_eq}
 use Rattle.std.proofs.Common.{refl, ap, arith, ◌∙◌, sym, inl, inr}
-use Rattle.std.proofs.Math.IntN.{one, *ℤ-one}
 use Rattle.std.proofs.lemmas.Int.{ints}
 use Rattle.std.proofs.lemmas.Bool.Decides.{nat_tests}
-use Rattle.tv_lemmas.proofs.Integers.{sub-mul, mul-swap}
-use Rattle.tv_laws_katz.proofs.Multiplied.{mul-mul, mul-middle, mul-neg, neg-pull}
+use Rattle.tv_lemmas.proofs.Integers.{sub-mul}
+use Rattle.tv_laws_katz.proofs.Multiplied.{mul-mul, mul-middle, mul-neg, neg-pull, one-mul}
 use Rattle.tv_spec_katz.specs.Binomials.{choose, power_sign, binomial, power_at}
 
 pub choose-step : (n k : ℕ) → suc k * choose n (suc k) + k * choose n k ≡ n * choose n k
@@ -61,10 +60,6 @@ power_sign-square k = square_by (power_sign k) (sign_is (nat_eq (k % 2) 0))
 
 pub power_sign-same : (j k : ℕ) → j % 2 ≡ k % 2 → power_sign j ≡ power_sign k
 power_sign-same j k e = ap (λ r. cond (nat_eq r 0) (pos 1) (negsuc 0)) e
-
-one-mul : (z : ℤ) → pos 1 *ℤ z ≡ z
-unfolding one
-one-mul z = mul-swap (pos 1) z ∙ *ℤ-one z
 
 -- the product of the two signs in front is 1
 twice_signed : (s z : ℤ) → s *ℤ s ≡ pos 1 → s *ℤ (s *ℤ z) ≡ z
