@@ -45,7 +45,7 @@ factors-are hs (suc g) J i e = higher-are hs (2 * i.genus - 1) i (omega arith)
 pub same-degree : (hs : List ℤ) (i : Integer) (f : Factor) → IsFactorOf hs i f → f.at.degree ≡ degree_of hs i.class
 same-degree hs i f of = ap (λ (x : Factor). x.at.degree) of.is
 
-factors-high : (hs : List ℤ) (g J : ℕ) (i : Integer) (d : ℤ) → i.genus ≡ g → IsPositive hs i → d ≤ℤ degree_of hs i.class → AllByRecursion (IsHigh d) (factors_by hs g J i)
+pub factors-high : (hs : List ℤ) (g J : ℕ) (i : Integer) (d : ℤ) → i.genus ≡ g → IsPositive hs i → d ≤ℤ degree_of hs i.class → AllByRecursion (IsHigh d) (factors_by hs g J i)
 factors-high hs g J i d e positive h = all-onto (IsFactorOf hs i) (IsHigh d)
     (λ f of. record { rising = omega (arith, ints, same-degree hs i f of); high = omega (arith, ints, same-degree hs i f of) }) (factors_by hs g J i) (factors-are hs g J i e)
 

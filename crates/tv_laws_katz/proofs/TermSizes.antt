@@ -5,22 +5,28 @@
 -- power-size             the coefficient of a power of 1 - X is at most that of the power without sign
 -- size_of_product        the size of a coefficient
 -- sizes_of_terms         the sizes of all terms of the recurrence
+-- size_of_katz, sizes_of_katz_terms  the same of Katz's product; factors-rise, whose factors have degrees of at least 1
 use Rattle.std.specs.Prelude.{◌≡◌, ℕ, zero, suc, ◌+◌, ◌*◌, ◌<◌, ◌≤◌, ℤ, pos, negsuc, ◌*ℤ◌, neg_ℤ, ◌≤ℤ◌, unsigned_abs, Bool, true, false, ◌&&◌, if◌then◌else◌, List, [], ◌∷◌, map}
 use Rattle.std.specs.List.{AllByRecursion}
 use Rattle.std.specs.Ordering.{int_eq}
-use Rattle.std.proofs.Common.{arith, mul-le-mul, mul-le-mul_left}
+use Rattle.std.proofs.Common.{refl, arith, mul-le-mul, mul-le-mul_left}
 use Rattle.std.proofs.Math.IntN.{*ℤ-zero, neg_ℤ-neg_ℤ}
 use Rattle.std.proofs.lemmas.Int.{ints, unsigned_abs-mul}
 use Rattle.tv_ring.specs.Sums.{total_below}
 use Rattle.tv_laws_series.specs.Terms.{natural}
-use Rattle.tv_lemmas.proofs.Members.{all-map}
+use Rattle.tv_lemmas.proofs.Members.{all-map, all-onto, all-flat_map}
 use Rattle.tv_spec_katz.specs.Binomials.{choose, power_sign, binomial, power_at, sum_below}
-use Rattle.tv_spec_katz.specs.Places.{Place, difference_by, unit, is_zero_class}
+use Rattle.tv_spec_katz.specs.Places.{Place, place, difference_by, unit, is_zero_class}
 use Rattle.tv_spec_katz.specs.Product.{Factor, times, product}
-use Rattle.tv_spec_katz.specs.Majorant.{without_sign}
+use Rattle.tv_spec_katz.specs.Majorant.{without_sign, absolute_product}
+use Rattle.tv_spec_katz.specs.Katz.{Integer, factors_by, factors, factor_bound, katz}
+use Rattle.tv_laws_katz.specs.Further.{IsPositive}
+use Rattle.tv_laws_katz.proofs.FurtherInteger.{factors-high}
+use Rattle.tv_laws_katz.proofs.LargerBound.{positive-all, product-absolute}
+use Rattle.tv_laws_katz.proofs.Leading.{IsHigh}
 use Rattle.tv_laws_katz.specs.Weights.{IsRising}
 use Rattle.tv_laws_katz.specs.Recurrence.{log_of, logs}
-use Rattle.tv_laws_katz.specs.Sizes.{log_size, log_sizes, SizeOfProduct, SizesOfTerms}
+use Rattle.tv_laws_katz.specs.Sizes.{log_size, log_sizes, SizeOfProduct, SizesOfTerms, SizeOfKatz, SizesOfKatzTerms}
 use Rattle.tv_laws_katz.proofs.Powers.{power_at-negsuc, power_sign-size, choose-more}
 use Rattle.tv_laws_katz.proofs.ProductRecurrence.{factor_recurrence}
 
@@ -86,3 +92,20 @@ pub sizes_of_terms : SizesOfTerms
 sizes_of_terms D fs p rising most =
     let whole = factor_recurrence D (map without_sign fs) p (all-map IsRising IsRising without_sign (λ f h. h) fs rising) most in
     omega (arith, ints, whole, logs-size D fs (product fs) (product (map without_sign fs)) p rising (size_of_product fs))
+
+pub size_of_katz : SizeOfKatz
+unfolding katz absolute_product
+size_of_katz hs is v n =
+    let fs = factors hs (factor_bound hs is v n) is in
+    omega (arith, ints, power_sign-size (unsigned_abs n) (product fs (place hs v n)), size_of_product fs (place hs v n))
+
+-- each factor of an integer has the degree of its class
+pub factors-rise : (hs : List ℤ) (J : ℕ) (is : List Integer) → AllByRecursion (IsPositive hs) is → AllByRecursion IsRising (factors hs J is)
+factors-rise hs J is positive = all-flat_map (IsPositive hs) IsRising (λ i. factors_by hs i.genus J i)
+    (λ i h. all-onto (IsHigh (pos 1)) IsRising (λ f high. high.rising) (factors_by hs i.genus J i) (factors-high hs i.genus J i (pos 1) refl h h)) is positive
+
+pub sizes_of_katz_terms : SizesOfKatzTerms
+sizes_of_katz_terms hs w D J is v n within most low =
+    let fs = factors hs J is in
+    let whole = sizes_of_terms D fs (place hs v n) (factors-rise hs J is (positive-all hs w is within)) most in
+    rw (product-absolute hs w is v n J within low) whole

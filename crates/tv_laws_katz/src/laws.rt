@@ -2,7 +2,7 @@
 
 ghost use Rattle.tv_laws_katz.specs.Further.{NewInteger, Unchanged};
 ghost use Rattle.tv_laws_katz.specs.Recurrence.{FactorRecurrence, FactorDivision};
-ghost use Rattle.tv_laws_katz.specs.Sizes.{SizeOfProduct, SizesOfTerms};
+ghost use Rattle.tv_laws_katz.specs.Sizes.{SizeOfProduct, SizesOfTerms, AbsoluteIsProduct, SizeOfKatz, SizesOfKatzTerms};
 ghost use Rattle.tv_laws_katz.specs.Weights.{LargerFactors, KatzIsProduct, VanishesBySlope, UnitBelowOne, VanishesElsewhere};
 
 /// At its own class and the exponent 1 - genus a further integer adds exactly its value.
@@ -59,4 +59,19 @@ pub fn size_of_product()
 /// And degree times that product bounds the sizes of all terms of the sum together.
 pub fn sizes_of_terms()
     ensures { SizesOfTerms }
+{}
+
+/// Of Katz's product without signs, too, more factors of genus 0 than the weight says change nothing.
+pub fn absolute_is_product()
+    ensures { AbsoluteIsProduct }
+{}
+
+/// It bounds Katz's product.
+pub fn size_of_katz()
+    ensures { SizeOfKatz }
+{}
+
+/// And degree times it bounds the sizes of all terms of the recurrence together.
+pub fn sizes_of_katz_terms()
+    ensures { SizesOfKatzTerms }
 {}
