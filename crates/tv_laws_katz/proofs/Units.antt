@@ -5,6 +5,7 @@
 -- product-low       at degrees of at most 0 a product is the unit; product-below, at degrees below 0 it is 0
 -- times-same        a factor times series that agree at the places that count
 -- product-longer    powers of X beyond the degree change nothing
+-- natural-most      a whole number up to n is at most n as a natural one
 use Rattle.std.specs.Prelude.{◌≡◌, ℕ, zero, suc, ◌≤◌, ◌<◌, ℤ, pos, negsuc, ◌*ℤ◌, ◌≤ℤ◌, ◌<ℤ◌, List, [], ◌∷◌, Bool, true, false, ◌&&◌, if◌then◌else◌}
 use Rattle.std.proofs.Common.{refl, ap, arith, ◌∙◌, sym}
 use Rattle.std.proofs.Math.IntN.{*ℤ-zero}
@@ -71,7 +72,7 @@ natural-at : (z : ℤ) (k : ℕ) → suc (natural z) ≤ k → z <ℤ pos k
 natural-at (pos n) k h = omega (arith, ints)
 natural-at (negsuc n) k h = omega (arith, ints)
 
-natural-most : (z : ℤ) (n : ℕ) → z ≤ℤ pos n → natural z ≤ n
+pub natural-most : (z : ℤ) (n : ℕ) → z ≤ℤ pos n → natural z ≤ n
 natural-most (pos m) n h = omega (arith, ints)
 natural-most (negsuc m) n h = omega (arith, ints)
 

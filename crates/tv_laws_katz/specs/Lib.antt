@@ -1,4 +1,5 @@
 pub mod Further
+pub mod Logarithm
 pub mod Recurrence
 pub mod Sizes
 pub mod Weights

@@ -1,6 +1,7 @@
 //! Laws of Katz's product over integers: each function does nothing, and its contract is a law.
 
 ghost use Rattle.tv_laws_katz.specs.Further.{NewInteger, Unchanged};
+ghost use Rattle.tv_laws_katz.specs.Logarithm.{KatzRecurrence, KatzDivision};
 ghost use Rattle.tv_laws_katz.specs.Recurrence.{FactorRecurrence, FactorDivision};
 ghost use Rattle.tv_laws_katz.specs.Sizes.{SizeOfProduct, SizesOfTerms, AbsoluteIsProduct, SizeOfKatz, SizesOfKatzTerms};
 ghost use Rattle.tv_laws_katz.specs.Weights.{LargerFactors, KatzIsProduct, VanishesBySlope, UnitBelowOne, VanishesElsewhere};
@@ -74,4 +75,15 @@ pub fn size_of_katz()
 /// And degree times it bounds the sizes of all terms of the recurrence together.
 pub fn sizes_of_katz_terms()
     ensures { SizesOfKatzTerms }
+{}
+
+/// Class by class: degree times the series of a class is the sum of the products of the series of lower classes with the
+/// logarithmic series of the integers.
+pub fn katz_recurrence()
+    ensures { KatzRecurrence }
+{}
+
+/// So the degree divides that sum, and the quotient is the coefficient.
+pub fn katz_division()
+    ensures { KatzDivision }
 {}
