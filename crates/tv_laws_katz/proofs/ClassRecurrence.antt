@@ -44,8 +44,10 @@ use Rattle.tv_laws_katz.proofs.TermSizes.{factors-rise}
 use Rattle.tv_laws_katz.proofs.Totals.{spread, total-pick, total-sum_below, total-swap, total-scale, when-off, int_eq-apart}
 use Rattle.tv_laws_katz.proofs.Units.{product-below, natural-most}
 
-heavy-term : (hs : List ℤ) (w g T : ℕ) (i : Integer) → IsWithinSlope hs w i → i.genus ≡ g → (j : ℕ) → j < s_terms g T → pos 0 ≤ℤ weight w (place hs i.class (s_exponent g j))
-heavy-term hs w zero T i within e j h = omega (arith, ints, mul-nonneg-nonneg (pos w) (degree_of hs i.class) (omega (arith, ints)) (omega (arith, ints, within.positive)))
+heavy-term : (hs : List ℤ) (w g T : ℕ) (i : Integer) → IsWithinSlope hs w i → i.genus ≡ g → (j : ℕ) → j < s_terms g T →
+    pos 0 ≤ℤ weight w (place hs i.class (s_exponent g j))
+heavy-term hs w zero T i within e j h =
+    omega (arith, ints, mul-nonneg-nonneg (pos w) (degree_of hs i.class) (omega (arith, ints)) (omega (arith, ints, within.positive)))
 heavy-term hs w (suc g) T i within e j h = omega (arith, ints, within.slope)
 
 natural-is : (z : ℤ) → pos 0 ≤ℤ z → z ≡ pos (natural z)
@@ -53,8 +55,10 @@ natural-is (pos n) h = refl
 natural-is (negsuc n) h = absurd (omega (arith, ints))
 
 -- k times an exponent, from the lowest of the multiple on
-from-lowest : (hs : List ℤ) (w k : ℕ) (B : List ℤ) (m : ℤ) → pos k *ℤ m ≡ begins_at hs w (times k B) +ℤ (pos k *ℤ weight w (place hs B m))
-from-lowest hs w k B m = omega (arith, ints, ap (λ z. pos w *ℤ z) (degree_of-times hs k B), mul-add (pos k) m (pos w *ℤ degree_of hs B), mul-middle (pos w) (pos k) (degree_of hs B))
+from-lowest : (hs : List ℤ) (w k : ℕ) (B : List ℤ) (m : ℤ) →
+    pos k *ℤ m ≡ begins_at hs w (times k B) +ℤ (pos k *ℤ weight w (place hs B m))
+from-lowest hs w k B m =
+    omega (arith, ints, ap (λ z. pos w *ℤ z) (degree_of-times hs k B), mul-add (pos k) m (pos w *ℤ degree_of hs B), mul-middle (pos w) (pos k) (degree_of hs B))
 
 beyond : (k j : ℕ) (m : ℤ) → natural m ≤ j → pos (suc k * suc j) ≡ m → ⊥
 beyond k j (pos m) h e = omega (arith, ints, e)
@@ -63,7 +67,8 @@ beyond k j (negsuc m) h e = omega (arith, ints, e)
 -- in genus 0 the terms beyond m have exponents above it
 s_power-longer : (T g k : ℕ) (m : ℤ) → natural m ≤ T → s_power_to T g (suc k) m ≡ s_power g (suc k) m
 unfolding s_power s_power_to
-s_power-longer T zero k m h = sum_below-longer _ (natural m) T h (λ j l less. when-off (int_eq (pos (suc k * suc j)) m) (negsuc j) (int_eq-apart (pos (suc k * suc j)) m (beyond k j m l)))
+s_power-longer T zero k m h =
+    sum_below-longer _ (natural m) T h (λ j l less. when-off (int_eq (pos (suc k * suc j)) m) (negsuc j) (int_eq-apart (pos (suc k * suc j)) m (beyond k j m l)))
 s_power-longer T (suc g) k m h = refl
 
 within-T : (T r : ℕ) (Z : Type 0) → (T < r → Z) → (r ≤ T) ⊎ Z
@@ -74,9 +79,11 @@ within-T T r Z more = elim (sign (pos T -ℤ pos r)) [
 ]
 
 multiple-rises : (hs : List ℤ) (k : ℕ) (B : List ℤ) → pos 1 ≤ℤ degree_of hs B → pos 0 ≤ℤ degree_of hs (times k B)
-multiple-rises hs k B h = omega (arith, ints, degree_of-times hs k B, mul-nonneg-nonneg (pos k) (degree_of hs B) (omega (arith, ints)) (omega (arith, ints)))
+multiple-rises hs k B h =
+    omega (arith, ints, degree_of-times hs k B, mul-nonneg-nonneg (pos k) (degree_of hs B) (omega (arith, ints)) (omega (arith, ints)))
 
-lowest-low : (hs : List ℤ) (w k t T : ℕ) (B : List ℤ) → pos 1 ≤ℤ degree_of hs B → t ≤ T → natural (begins_at hs w (times k B) +ℤ pos t) ≤ T
+lowest-low : (hs : List ℤ) (w k t T : ℕ) (B : List ℤ) → pos 1 ≤ℤ degree_of hs B → t ≤ T →
+    natural (begins_at hs w (times k B) +ℤ pos t) ≤ T
 lowest-low hs w k t T B h l = natural-most (begins_at hs w (times k B) +ℤ pos t) T
     (omega (arith, ints, mul-nonneg-nonneg (pos w) (degree_of hs (times k B)) (omega (arith, ints)) (multiple-rises hs k B h)))
 
@@ -128,7 +135,8 @@ module _ (hs : List ℤ) (w T : ℕ) (is : List Integer) (v : List ℤ) (n : ℤ
       ap (λ z. scale_of hs i *ℤ z) nothing ∙ *ℤ-zero (scale_of hs i)
 
   -- a multiple is listed, or it has more than the degree of v
-  listed-or : (Bs : List (List ℤ)) (D : ℕ) (i : Integer) (k : ℕ) → k < D → HasMultiples hs v Bs D i → Contains Bs (times (suc k) i.class) ⊎ (part i k (times (suc k) i.class) ≡ pos 0)
+  listed-or : (Bs : List (List ℤ)) (D : ℕ) (i : Integer) (k : ℕ) → k < D → HasMultiples hs v Bs D i →
+      Contains Bs (times (suc k) i.class) ⊎ (part i k (times (suc k) i.class) ≡ pos 0)
   listed-or Bs D i k h multiples =
       let B = times (suc k) i.class in
       elim (sign (degree_of hs v -ℤ degree_of hs B)) [
@@ -137,16 +145,20 @@ module _ (hs : List ℤ) (w T : ℕ) (is : List Integer) (v : List ℤ) (n : ℤ
         | inr (inr more) ↦ inl (multiples.listed k h (omega (arith, ints)))
       ]
 
-  listed-parts : (Bs : List (List ℤ)) (D : ℕ) (i : Integer) (k : ℕ) → k < D → IsDistinct same_vector Bs → HasMultiples hs v Bs D i →
+  listed-parts : (Bs : List (List ℤ)) (D : ℕ) (i : Integer) (k : ℕ) → k < D → IsDistinct same_vector Bs →
+      HasMultiples hs v Bs D i →
       total (λ B. when (same_vector (times (suc k) i.class) B) (part i k B)) Bs ≡ part i k (times (suc k) i.class)
-  listed-parts Bs D i k h once multiples = total-pick same_vector same_vector_tells same_vector-same (part i k) (times (suc k) i.class) Bs once (listed-or Bs D i k h multiples)
+  listed-parts Bs D i k h once multiples =
+      total-pick same_vector same_vector_tells same_vector-same (part i k) (times (suc k) i.class) Bs once (listed-or Bs D i k h multiples)
 
   -- a sum under a test, and with a factor in front
-  when-sum : (b : Bool) (d : ℤ) (P s : ℕ → ℤ) (N : ℕ) → when b (d *ℤ sum_below (λ t. P t *ℤ s t) N) ≡ sum_below (λ t. P t *ℤ when b (d *ℤ s t)) N
+  when-sum : (b : Bool) (d : ℤ) (P s : ℕ → ℤ) (N : ℕ) →
+      when b (d *ℤ sum_below (λ t. P t *ℤ s t) N) ≡ sum_below (λ t. P t *ℤ when b (d *ℤ s t)) N
   when-sum true d P s N = sum_below-scale d (λ t. P t *ℤ s t) N ∙ sum_below-same _ _ N (λ t h. mul-middle d (P t) (s t))
   when-sum false d P s N = sym (sum_below-none _ N (λ t h. *ℤ-zero (P t)))
 
-  class-sum : (D : ℕ) (B : List ℤ) → total (λ i. sum_below (λ k. when (same_vector (times (suc k) i.class) B) (part i k B)) D) is ≡
+  class-sum : (D : ℕ) (B : List ℤ) →
+      total (λ i. sum_below (λ k. when (same_vector (times (suc k) i.class) B) (part i k B)) D) is ≡
       sum_below (λ t. left B (exponent_at B t) *ℤ logarithm hs D is B (exponent_at B t)) (suc T)
   unfolding logarithm log_of_integer
   class-sum D B =
@@ -159,7 +171,8 @@ module _ (hs : List ℤ) (w T : ℕ) (is : List Integer) (v : List ℤ) (n : ℤ
       (total-sum_below (λ i t. P t *ℤ sum_below (λ k. X i k t) D) N is ∙
       sum_below-same _ _ N (λ t h. sym (total-scale (P t) (λ i. sum_below (λ k. X i k t) D) is)))
 
-  pub series-sum : (D : ℕ) (Bs : List (List ℤ)) → degree_of hs v ≤ℤ pos D → IsDistinct same_vector Bs → AllByRecursion (HasMultiples hs v Bs D) is →
+  pub series-sum : (D : ℕ) (Bs : List (List ℤ)) → degree_of hs v ≤ℤ pos D → IsDistinct same_vector Bs →
+      AllByRecursion (HasMultiples hs v Bs D) is →
       degree_of hs v *ℤ series (place hs v n) ≡ total (λ B. sum_below (λ t. left B (exponent_at B t) *ℤ logarithm hs D is B (exponent_at B t)) (suc T)) Bs
   unfolding logs
   series-sum D Bs most once multiples =
@@ -200,4 +213,5 @@ katz_recurrence hs w D T is v n Bs given =
     sum_below-scale s (Y B) (suc T) ∙ sum_below-same _ _ (suc T) (λ t h. signed-term hs w T is v n given.slope given.entries given.room D B t (omega arith) f)) Bs given.lengths)))
 
 pub katz_division : KatzDivision
-katz_division hs w D T is v n Bs x given least e = cancelled (degree_of hs v) x (katz hs is v n) least (e ∙ sym (katz_recurrence hs w D T is v n Bs given))
+katz_division hs w D T is v n Bs x given least e =
+    cancelled (degree_of hs v) x (katz hs is v n) least (e ∙ sym (katz_recurrence hs w D T is v n Bs given))

@@ -24,7 +24,8 @@ taken D hs B P p m = sum_below (λ k. P (difference_by (suc k) p (place hs B m))
 abbrev pub scale_of : List ℤ → Integer → ℤ
 scale_of hs i = degree_of hs i.class *ℤ i.value
 
-factor-log : (D : ℕ) (hs : List ℤ) (i : Integer) (P : Place → ℤ) (p : Place) (m e x c : ℤ) → m ≡ x → neg_ℤ e ≡ i.value *ℤ c → log_of D (factor_at hs i m e) P p ≡ scale_of hs i *ℤ (c *ℤ taken D hs i.class P p x)
+factor-log : (D : ℕ) (hs : List ℤ) (i : Integer) (P : Place → ℤ) (p : Place) (m e x c : ℤ) → m ≡ x → neg_ℤ e ≡ i.value *ℤ c →
+    log_of D (factor_at hs i m e) P p ≡ scale_of hs i *ℤ (c *ℤ taken D hs i.class P p x)
 unfolding log_of
 factor-log D hs i P p m e x c same power =
     ap (λ z. (degree_of hs i.class *ℤ z) *ℤ taken D hs i.class P p m) power ∙
@@ -50,17 +51,22 @@ higher-power_is g k i e =
     ap (λ s. neg_ℤ ((s *ℤ i.value) *ℤ pos (choose (2 * i.genus - 2) k))) sign ∙
     (ap (λ n. neg_ℤ ((neg_ℤ (power_sign (k + g)) *ℤ i.value) *ℤ pos (choose n k))) row ∙ power-ring (power_sign (k + g)) i.value (pos (choose (2 * g) k)))
 
-zero-logs : (D : ℕ) (hs : List ℤ) (J : ℕ) (i : Integer) (P : Place → ℤ) (p : Place) → total (λ f. log_of D f P p) (genus_zero hs J i) ≡ sum_below (parts D hs i P p 0) J
+zero-logs : (D : ℕ) (hs : List ℤ) (J : ℕ) (i : Integer) (P : Place → ℤ) (p : Place) →
+    total (λ f. log_of D f P p) (genus_zero hs J i) ≡ sum_below (parts D hs i P p 0) J
 unfolding sum_below
 zero-logs D hs zero i P p = refl
-zero-logs D hs (suc J) i P p = omega (arith, ints, zero-logs D hs J i P p, factor-log D hs i P p (pos (suc J)) (pos (suc J) *ℤ i.value) (pos (suc J)) (neg_ℤ (pos (suc J))) refl (zero-power (pos (suc J)) i.value))
+zero-logs D hs (suc J) i P p =
+    omega (arith, ints, zero-logs D hs J i P p, factor-log D hs i P p (pos (suc J)) (pos (suc J) *ℤ i.value) (pos (suc J)) (neg_ℤ (pos (suc J))) refl (zero-power (pos (suc J)) i.value))
 
-higher-logs : (D : ℕ) (hs : List ℤ) (g n : ℕ) (i : Integer) (P : Place → ℤ) (p : Place) → i.genus ≡ suc g → total (λ f. log_of D f P p) (higher_below hs n i) ≡ sum_below (parts D hs i P p (suc g)) n
+higher-logs : (D : ℕ) (hs : List ℤ) (g n : ℕ) (i : Integer) (P : Place → ℤ) (p : Place) → i.genus ≡ suc g →
+    total (λ f. log_of D f P p) (higher_below hs n i) ≡ sum_below (parts D hs i P p (suc g)) n
 unfolding sum_below
 higher-logs D hs g zero i P p e = refl
-higher-logs D hs g (suc k) i P p e = omega (arith, ints, higher-logs D hs g k i P p e, factor-log D hs i P p (higher_exponent i k) (higher_power i k) (s_exponent (suc g) k) (s_coefficient (suc g) k) (omega (arith, ints)) (higher-power_is g k i e))
+higher-logs D hs g (suc k) i P p e =
+    omega (arith, ints, higher-logs D hs g k i P p e, factor-log D hs i P p (higher_exponent i k) (higher_power i k) (s_exponent (suc g) k) (s_coefficient (suc g) k) (omega (arith, ints)) (higher-power_is g k i e))
 
-factors-logs : (D : ℕ) (hs : List ℤ) (g J : ℕ) (i : Integer) (P : Place → ℤ) (p : Place) → i.genus ≡ g → total (λ f. log_of D f P p) (factors_by hs g J i) ≡ sum_below (parts D hs i P p g) (s_terms g J)
+factors-logs : (D : ℕ) (hs : List ℤ) (g J : ℕ) (i : Integer) (P : Place → ℤ) (p : Place) → i.genus ≡ g →
+    total (λ f. log_of D f P p) (factors_by hs g J i) ≡ sum_below (parts D hs i P p g) (s_terms g J)
 factors-logs D hs zero J i P p e = zero-logs D hs J i P p
 factors-logs D hs (suc g) J i P p e =
     let count : 2 * i.genus - 1 ≡ suc (2 * g) = omega arith in
@@ -68,9 +74,11 @@ factors-logs D hs (suc g) J i P p e =
 
 -- the terms of s^(g-1) for each multiple
 abbrev pub multiple_terms : List ℤ → Integer → (Place → ℤ) → Place → ℕ → ℕ → ℕ → ℤ
-multiple_terms hs i P p g N k = sum_below (λ j. P (difference_by (suc k) p (place hs i.class (s_exponent g j))) *ℤ s_coefficient g j) N
+multiple_terms hs i P p g N k =
+    sum_below (λ j. P (difference_by (suc k) p (place hs i.class (s_exponent g j))) *ℤ s_coefficient g j) N
 
-pub integer-logs : (D : ℕ) (hs : List ℤ) (J : ℕ) (i : Integer) (P : Place → ℤ) (p : Place) → total (λ f. log_of D f P p) (factors_by hs i.genus J i) ≡ sum_below (λ k. scale_of hs i *ℤ multiple_terms hs i P p i.genus (s_terms i.genus J) k) D
+pub integer-logs : (D : ℕ) (hs : List ℤ) (J : ℕ) (i : Integer) (P : Place → ℤ) (p : Place) →
+    total (λ f. log_of D f P p) (factors_by hs i.genus J i) ≡ sum_below (λ k. scale_of hs i *ℤ multiple_terms hs i P p i.genus (s_terms i.genus J) k) D
 integer-logs D hs J i P p =
     let g = i.genus in
     let N = s_terms i.genus J in

@@ -24,7 +24,8 @@ none-taken (x ∷ u) (y ∷ v) =
     let head : x -ℤ (pos 0 *ℤ y) ≡ x = omega (arith, ints, zero-*ℤ y) in
     rw (head, none-taken u v) refl
 
-one-more-taken : (k : ℕ) (u v : List ℤ) → class_difference (class_difference u v) (times k v) ≡ class_difference u (times (suc k) v)
+one-more-taken : (k : ℕ) (u v : List ℤ) →
+    class_difference (class_difference u v) (times k v) ≡ class_difference u (times (suc k) v)
 one-more-taken k [] v = refl
 one-more-taken k (x ∷ u) [] = refl
 one-more-taken k (x ∷ u) (y ∷ v) =
@@ -36,10 +37,13 @@ unfolding difference_by
 class-multiple zero p x = sym (none-taken p.class x.class)
 class-multiple (suc k) p x = class-multiple k (difference p x) x ∙ one-more-taken k p.class x.class
 
-pub place-multiple : (hs : List ℤ) (k : ℕ) (v B : List ℤ) (n m : ℤ) → length v ≡ length hs → length B ≡ length hs → difference_by k (place hs v n) (place hs B m) ≡ place hs (class_difference v (times k B)) (n -ℤ (pos k *ℤ m))
+pub place-multiple : (hs : List ℤ) (k : ℕ) (v B : List ℤ) (n m : ℤ) → length v ≡ length hs → length B ≡ length hs →
+    difference_by k (place hs v n) (place hs B m) ≡ place hs (class_difference v (times k B)) (n -ℤ (pos k *ℤ m))
 place-multiple hs k v B n m e f = place-same _ _
     (omega (arith, ints, difference_by-degree k (place hs v n) (place hs B m), degree-difference hs v (times k B) e (length-map B (λ x. pos k *ℤ x) ∙ f), degree_of-times hs k B))
     (class-multiple k (place hs v n) (place hs B m)) (difference_by-exponent k (place hs v n) (place hs B m))
 
-pub weight-left : (hs : List ℤ) (w : ℕ) (v B : List ℤ) (n m : ℤ) → length v ≡ length hs → length B ≡ length hs → weight w (place hs (class_difference v B) (n -ℤ m)) ≡ weight w (place hs v n) -ℤ weight w (place hs B m)
-weight-left hs w v B n m e f = omega (arith, ints, ap (λ z. pos w *ℤ z) (degree-difference hs v B e f), mul-sub (pos w) (degree_of hs v) (degree_of hs B))
+pub weight-left : (hs : List ℤ) (w : ℕ) (v B : List ℤ) (n m : ℤ) → length v ≡ length hs → length B ≡ length hs →
+    weight w (place hs (class_difference v B) (n -ℤ m)) ≡ weight w (place hs v n) -ℤ weight w (place hs B m)
+weight-left hs w v B n m e f =
+    omega (arith, ints, ap (λ z. pos w *ℤ z) (degree-difference hs v B e f), mul-sub (pos w) (degree_of hs v) (degree_of hs B))

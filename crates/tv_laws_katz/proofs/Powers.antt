@@ -55,7 +55,8 @@ pub choose-one : (n : ℕ) → choose n 1 ≡ n
 unfolding choose
 choose-one n = omega (arith, choose-step n 0)
 
-sign_by : (a b : ℕ) → b % 2 ≡ suc a % 2 → cond (nat_eq (b % 2) 0) (pos 1) (negsuc 0) ≡ neg_ℤ (cond (nat_eq (a % 2) 0) (pos 1) (negsuc 0))
+sign_by : (a b : ℕ) → b % 2 ≡ suc a % 2 →
+    cond (nat_eq (b % 2) 0) (pos 1) (negsuc 0) ≡ neg_ℤ (cond (nat_eq (a % 2) 0) (pos 1) (negsuc 0))
 sign_by a b e = grind (arith, nat_tests, ints)
 
 pub power_sign-next : (k : ℕ) → power_sign (suc k) ≡ neg_ℤ (power_sign k)
@@ -104,7 +105,8 @@ power_at-one (pos n) = omega (arith, ints, choose-one n)
 power_at-one (negsuc n) = power_at-negsuc n 1 ∙ omega (arith, ints, choose-one (n + 1))
 
 -- (k + 1) times the next coefficient, where s is the sign, c and d the binomial coefficients
-next_by : (s : ℤ) (n k c d : ℕ) → suc k * d + k * c ≡ n * c → pos (suc k) *ℤ (neg_ℤ s *ℤ pos d) ≡ (pos k -ℤ pos n) *ℤ (s *ℤ pos c)
+next_by : (s : ℤ) (n k c d : ℕ) → suc k * d + k * c ≡ n * c →
+    pos (suc k) *ℤ (neg_ℤ s *ℤ pos d) ≡ (pos k -ℤ pos n) *ℤ (s *ℤ pos c)
 next_by s n k c d e =
     let here : pos (suc k) *ℤ pos d ≡ neg_ℤ ((pos k -ℤ pos n) *ℤ pos c) = omega (arith, ints, sub-mul (pos k) (pos n) (pos c)) in
     neg-pull s (pos (suc k)) (pos d) ∙ (rw here (omega (arith, ints, mul-neg s ((pos k -ℤ pos n) *ℤ pos c), mul-middle (pos k -ℤ pos n) s (pos c))))
@@ -136,5 +138,8 @@ size-parity (negsuc n) (negsuc m) (pos d) e = omega (arith, ints)
 size-parity (negsuc n) (negsuc m) (negsuc d) e = omega (arith, ints)
 
 -- the sign of a power is the product of those of its parts
-pub power_sign-split : (n m : ℤ) → power_sign (unsigned_abs n) ≡ power_sign (unsigned_abs (n -ℤ m)) *ℤ power_sign (unsigned_abs m)
-power_sign-split n m = power_sign-same (unsigned_abs n) (unsigned_abs (n -ℤ m) + unsigned_abs m) (size-parity n m (n -ℤ m) refl) ∙ power_sign-add (unsigned_abs (n -ℤ m)) (unsigned_abs m)
+pub power_sign-split : (n m : ℤ) →
+    power_sign (unsigned_abs n) ≡ power_sign (unsigned_abs (n -ℤ m)) *ℤ power_sign (unsigned_abs m)
+power_sign-split n m =
+    power_sign-same (unsigned_abs n) (unsigned_abs (n -ℤ m) + unsigned_abs m) (size-parity n m (n -ℤ m) refl) ∙
+    power_sign-add (unsigned_abs (n -ℤ m)) (unsigned_abs m)

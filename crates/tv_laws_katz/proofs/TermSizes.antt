@@ -37,7 +37,8 @@ size-mul a b (pos x) (pos y) h k =
 size-mul a b (negsuc x) y h k = absurd (omega (arith, ints))
 size-mul a b (pos x) (negsuc y) h k = absurd (omega (arith, ints))
 
-pub sum_below-size : (f g : ℕ → ℤ) (n : ℕ) → ((k : ℕ) → k < n → pos (unsigned_abs (f k)) ≤ℤ g k) → pos (unsigned_abs (sum_below f n)) ≤ℤ sum_below g n
+pub sum_below-size : (f g : ℕ → ℤ) (n : ℕ) → ((k : ℕ) → k < n → pos (unsigned_abs (f k)) ≤ℤ g k) →
+    pos (unsigned_abs (sum_below f n)) ≤ℤ sum_below g n
 unfolding sum_below
 sum_below-size f g zero less = omega (arith, ints)
 sum_below-size f g (suc n) less = omega (arith, ints, sum_below-size f g n (λ k h. less k (omega arith)), less n (omega arith))
@@ -45,9 +46,11 @@ sum_below-size f g (suc n) less = omega (arith, ints, sum_below-size f g n (λ k
 power-size : (e : ℤ) (k : ℕ) → pos (unsigned_abs (power_at e k)) ≤ℤ power_at (neg_ℤ (pos (unsigned_abs e))) k
 unfolding power_at binomial choose
 power-size (pos zero) zero = omega (arith, ints)
-power-size (pos zero) (suc k) = let none : power_sign (suc k) *ℤ pos 0 ≡ pos 0 = *ℤ-zero (power_sign (suc k)) in rw none (omega (arith, ints))
+power-size (pos zero) (suc k) =
+    let none : power_sign (suc k) *ℤ pos 0 ≡ pos 0 = *ℤ-zero (power_sign (suc k)) in rw none (omega (arith, ints))
 power-size (pos (suc n)) zero = rw (power_at-negsuc n 0) (omega (arith, ints, power_sign-size 0 (pos (choose (suc n) 0))))
-power-size (pos (suc n)) (suc k) = rw (power_at-negsuc n (suc k)) (omega (arith, ints, power_sign-size (suc k) (pos (choose (suc n) (suc k))), choose-more (suc n) (n + suc k) (suc k) (omega arith)))
+power-size (pos (suc n)) (suc k) =
+    rw (power_at-negsuc n (suc k)) (omega (arith, ints, power_sign-size (suc k) (pos (choose (suc n) (suc k))), choose-more (suc n) (n + suc k) (suc k) (omega arith)))
 power-size (negsuc n) k = rw (power_at-negsuc n k) (omega (arith, ints))
 
 bit-size : (b : Bool) → pos (unsigned_abs (if b then pos 1 else pos 0)) ≤ℤ (if b then pos 1 else pos 0)
@@ -61,7 +64,8 @@ unit-size p = bit-size (int_eq p.degree (pos 0) && (is_zero_class p.class && int
 pub size_of_product : SizeOfProduct
 unfolding product times
 size_of_product [] p = unit-size p
-size_of_product (f ∷ fs) p = sum_below-size _ _ (suc (natural p.degree)) (λ k h. size-mul (power_at f.power k) (product fs (difference_by k p f.at)) _ _ (power-size f.power k) (size_of_product fs (difference_by k p f.at)))
+size_of_product (f ∷ fs) p =
+    sum_below-size _ _ (suc (natural p.degree)) (λ k h. size-mul (power_at f.power k) (product fs (difference_by k p f.at)) _ _ (power-size f.power k) (size_of_product fs (difference_by k p f.at)))
 
 total-size : (f : ℕ → ℕ) (g : ℕ → ℤ) (n : ℕ) → ((k : ℕ) → k < n → pos (f k) ≤ℤ g k) → pos (total_below f n) ≤ℤ sum_below g n
 unfolding total_below sum_below
@@ -79,14 +83,18 @@ scaled-size c n x (pos m) e h =
     rw (← e) (omega (arith, ints, less))
 scaled-size c n x (negsuc m) e h = absurd (omega (arith, ints))
 
-log-size : (D : ℕ) (f : Factor) (P A : Place → ℤ) (p : Place) → IsRising f → ((q : Place) → pos (unsigned_abs (P q)) ≤ℤ A q) → pos (log_size D f P p) ≤ℤ log_of D (without_sign f) A p
+log-size : (D : ℕ) (f : Factor) (P A : Place → ℤ) (p : Place) → IsRising f → ((q : Place) → pos (unsigned_abs (P q)) ≤ℤ A q) →
+    pos (log_size D f P p) ≤ℤ log_of D (without_sign f) A p
 unfolding log_size log_of
-log-size D f P A p rising bound = scaled-size _ _ _ _ (front-size f.at.degree f.power rising) (total-size _ _ D (λ j h. bound (difference_by (suc j) p f.at)))
+log-size D f P A p rising bound =
+    scaled-size _ _ _ _ (front-size f.at.degree f.power rising) (total-size _ _ D (λ j h. bound (difference_by (suc j) p f.at)))
 
-logs-size : (D : ℕ) (fs : List Factor) (P A : Place → ℤ) (p : Place) → AllByRecursion IsRising fs → ((q : Place) → pos (unsigned_abs (P q)) ≤ℤ A q) → pos (log_sizes D fs P p) ≤ℤ logs D (map without_sign fs) A p
+logs-size : (D : ℕ) (fs : List Factor) (P A : Place → ℤ) (p : Place) → AllByRecursion IsRising fs →
+    ((q : Place) → pos (unsigned_abs (P q)) ≤ℤ A q) → pos (log_sizes D fs P p) ≤ℤ logs D (map without_sign fs) A p
 unfolding log_sizes logs
 logs-size D [] P A p rising bound = omega (arith, ints)
-logs-size D (f ∷ fs) P A p rising bound = omega (arith, ints, log-size D f P A p rising.0 bound, logs-size D fs P A p rising.1 bound)
+logs-size D (f ∷ fs) P A p rising bound =
+    omega (arith, ints, log-size D f P A p rising.0 bound, logs-size D fs P A p rising.1 bound)
 
 pub sizes_of_terms : SizesOfTerms
 sizes_of_terms D fs p rising most =
@@ -100,7 +108,8 @@ size_of_katz hs is v n =
     omega (arith, ints, power_sign-size (unsigned_abs n) (product fs (place hs v n)), size_of_product fs (place hs v n))
 
 -- each factor of an integer has the degree of its class
-pub factors-rise : (hs : List ℤ) (J : ℕ) (is : List Integer) → AllByRecursion (IsPositive hs) is → AllByRecursion IsRising (factors hs J is)
+pub factors-rise : (hs : List ℤ) (J : ℕ) (is : List Integer) → AllByRecursion (IsPositive hs) is →
+    AllByRecursion IsRising (factors hs J is)
 factors-rise hs J is positive = all-flat_map (IsPositive hs) IsRising (λ i. factors_by hs i.genus J i)
     (λ i h. all-onto (IsHigh (pos 1)) IsRising (λ f high. high.rising) (factors_by hs i.genus J i) (factors-high hs i.genus J i (pos 1) refl h h)) is positive
 

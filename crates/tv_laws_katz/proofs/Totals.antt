@@ -33,13 +33,17 @@ pub total-scale : {A : Type 0} (c : ℤ) (f : A → ℤ) (xs : List A) → c *�
 total-scale c f [] = *ℤ-zero c
 total-scale c f (x ∷ xs) = mul-add c (f x) (total f xs) ∙ ap (λ s. (c *ℤ f x) +ℤ s) (total-scale c f xs)
 
-pub total-sum_below : {A : Type 0} (f : A → ℕ → ℤ) (n : ℕ) (xs : List A) → total (λ x. sum_below (f x) n) xs ≡ sum_below (λ k. total (λ x. f x k) xs) n
+pub total-sum_below : {A : Type 0} (f : A → ℕ → ℤ) (n : ℕ) (xs : List A) →
+    total (λ x. sum_below (f x) n) xs ≡ sum_below (λ k. total (λ x. f x k) xs) n
 total-sum_below f n [] = sym (sum_below-none (λ k. pos 0) n (λ k h. refl))
-total-sum_below f n (x ∷ xs) = ap (λ s. sum_below (f x) n +ℤ s) (total-sum_below f n xs) ∙ sym (sum_below-add (f x) (λ k. total (λ y. f y k) xs) n)
+total-sum_below f n (x ∷ xs) = ap (λ s. sum_below (f x) n +ℤ s) (total-sum_below f n xs) ∙
+    sym (sum_below-add (f x) (λ k. total (λ y. f y k) xs) n)
 
-pub total-swap : {A B : Type 0} (f : A → B → ℤ) (xs : List A) (ys : List B) → total (λ x. total (f x) ys) xs ≡ total (λ y. total (λ x. f x y) xs) ys
+pub total-swap : {A B : Type 0} (f : A → B → ℤ) (xs : List A) (ys : List B) →
+    total (λ x. total (f x) ys) xs ≡ total (λ y. total (λ x. f x y) xs) ys
 total-swap f [] ys = sym (total-none (λ y. pos 0) ys (all-any (λ y. pos 0 ≡ pos 0) (λ y. refl) ys))
-total-swap f (x ∷ xs) ys = ap (λ s. total (f x) ys +ℤ s) (total-swap f xs ys) ∙ sym (total-add (f x) (λ y. total (λ z. f z y) xs) ys)
+total-swap f (x ∷ xs) ys = ap (λ s. total (f x) ys +ℤ s) (total-swap f xs ys) ∙
+    sym (total-add (f x) (λ y. total (λ z. f z y) xs) ys)
 
 -- a test that fails, before a factor
 pub when-false : (b : Bool) (y x : ℤ) → b ≡ false → y *ℤ when b x ≡ pos 0
@@ -61,7 +65,8 @@ apart-false : (x low : ℤ) (r t : ℕ) → x ≡ low +ℤ pos r → (r ≡ t �
 apart-false x low r t is apart = int_eq-apart x (low +ℤ pos t) (λ same. apart (omega (arith, ints, same)))
 
 pick-none : (F : ℤ → ℤ) (c x low : ℤ) (r n : ℕ) → x ≡ low +ℤ pos r → n ≤ r → sum_below (at F c x low) n ≡ pos 0
-pick-none F c x low r n is h = sum_below-none _ n (λ t l. when-false (int_eq x (low +ℤ pos t)) (F (low +ℤ pos t)) c (apart-false x low r t is (λ e. absurd (omega (arith, e)))))
+pick-none F c x low r n is h =
+    sum_below-none _ n (λ t l. when-false (int_eq x (low +ℤ pos t)) (F (low +ℤ pos t)) c (apart-false x low r t is (λ e. absurd (omega (arith, e)))))
 
 sum_below-pick : (F : ℤ → ℤ) (c x low : ℤ) (r n : ℕ) → x ≡ low +ℤ pos r → r < n → sum_below (at F c x low) n ≡ F x *ℤ c
 unfolding sum_below
@@ -76,7 +81,8 @@ sum_below-pick F c x low r (suc n) is h = elim (cases_eq r n) [
 ]
 
 -- where the place of x is further than T and its value is 0, both sides are 0
-pick-or_none : (F : ℤ → ℤ) (c x low : ℤ) (r T : ℕ) → x ≡ low +ℤ pos r → (r ≤ T) ⊎ (F x ≡ pos 0) → sum_below (at F c x low) (suc T) ≡ F x *ℤ c
+pick-or_none : (F : ℤ → ℤ) (c x low : ℤ) (r T : ℕ) → x ≡ low +ℤ pos r → (r ≤ T) ⊎ (F x ≡ pos 0) →
+    sum_below (at F c x low) (suc T) ≡ F x *ℤ c
 pick-or_none F c x low r T is (inl h) = sum_below-pick F c x low r (suc T) is (omega arith)
 pick-or_none F c x low r T is (inr none) = elim (sign (pos T -ℤ pos r)) [
   | inl less ↦ pick-none F c x low r (suc T) is (omega (arith, ints)) ∙ (let e : F x *ℤ c ≡ pos 0 = rw none (zero-*ℤ c) in sym e)
@@ -85,7 +91,8 @@ pick-or_none F c x low r T is (inr none) = elim (sign (pos T -ℤ pos r)) [
 ]
 
 -- values at places from low on, where those further than T are 0
-pub spread : (F : ℤ → ℤ) (low : ℤ) (T N : ℕ) (x c : ℕ → ℤ) → ((j : ℕ) → j < N → (r : ℕ) × (x j ≡ low +ℤ pos r) × ((r ≤ T) ⊎ (F (x j) ≡ pos 0))) →
+pub spread : (F : ℤ → ℤ) (low : ℤ) (T N : ℕ) (x c : ℕ → ℤ) →
+    ((j : ℕ) → j < N → (r : ℕ) × (x j ≡ low +ℤ pos r) × ((r ≤ T) ⊎ (F (x j) ≡ pos 0))) →
     sum_below (λ j. F (x j) *ℤ c j) N ≡ sum_below (λ t. F (low +ℤ pos t) *ℤ sum_below (λ j. when (int_eq (x j) (low +ℤ pos t)) (c j)) N) (suc T)
 spread F low T N x c places =
     sum_below-same _ _ N (λ j h. let r = places j h in sym (pick-or_none F (c j) (x j) low r.0 T r.1 r.2)) ∙
@@ -98,7 +105,9 @@ when-off b x e = rw e refl
 pub when-on : (b : Bool) (x : ℤ) → b ≡ true → when b x ≡ x
 when-on b x e = rw e refl
 
-pub total-pick : {A : Type 0} (same : A → A → Bool) → ((x y : A) → same x y ≡ true → x ≡ y) → ((x : A) → same x x ≡ true) → (G : A → ℤ) (x : A) (ys : List A) → IsDistinct same ys → Contains ys x ⊎ (G x ≡ pos 0) → total (λ y. when (same x y) (G y)) ys ≡ G x
+pub total-pick : {A : Type 0} (same : A → A → Bool) → ((x y : A) → same x y ≡ true → x ≡ y) → ((x : A) → same x x ≡ true) →
+    (G : A → ℤ) (x : A) (ys : List A) → IsDistinct same ys → Contains ys x ⊎ (G x ≡ pos 0) →
+    total (λ y. when (same x y) (G y)) ys ≡ G x
 unfolding IsDistinct
 total-pick same tells own G x [] once (inl (k, h, e)) = absurd (omega arith)
 total-pick same tells own G x [] once (inr none) = sym none

@@ -52,7 +52,8 @@ unfoldable pub s_power : ℕ → ℕ → ℤ → ℤ
 s_power g k m = s_power_to (natural m) g k m
 
 unfoldable pub log_of_integer : List ℤ → ℕ → List ℤ → ℤ → Integer → ℤ
-log_of_integer hs D B m i = sum_below (λ k. when (same_vector (times (suc k) i.class) B) ((degree_of hs i.class *ℤ i.value) *ℤ s_power i.genus (suc k) m)) D
+log_of_integer hs D B m i =
+    sum_below (λ k. when (same_vector (times (suc k) i.class) B) ((degree_of hs i.class *ℤ i.value) *ℤ s_power i.genus (suc k) m)) D
 
 unfoldable pub logarithm : List ℤ → ℕ → List Integer → List ℤ → ℤ → ℤ
 logarithm hs D is B m = total (log_of_integer hs D B m) is
