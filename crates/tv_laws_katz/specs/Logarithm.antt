@@ -1,6 +1,7 @@
 -- The recurrence of Katz's product over integers, class by class: with P_G the series of the class G, in the variable q = -y,
 --
---   deg(G) P_G = sum over the classes B of P_(G-B) L_B,   L_B = sum over k dividing B and over g of deg(B/k) n_g(B/k) s(y^k)^(g-1)
+--   deg(G) P_G = sum over the classes B of P_(G-B) L_B
+--   L_B        = sum over k dividing B and over g of deg(B/k) n_g(B/k) s(y^k)^(g-1)
 --
 -- with s = 2 - y - 1/y, its powers in rising powers of y.
 --
@@ -9,9 +10,12 @@
 -- s_exponent g j, s_coefficient g j == the term j of s^(g-1): -(y + 2 y^2 + 3 y^3 + ..) in genus 0
 -- s_power_to J g k m == the coefficient of y^m in s(y^k)^(g-1), of that many terms
 -- s_power g k m      == the coefficient of y^m in s(y^k)^(g-1)
--- logarithm hs D is B m == the coefficient of y^m in L_B: over the integers and k from 1 to D with k * class = B
+-- log_of_integer hs D B m i == deg(B/k) n_g(B/k) times the coefficient of y^m in s(y^k)^(g-1), for the k from 1 to D, if any,
+--                       with k * class = B
+-- logarithm hs D is B m == the coefficient of y^m in L_B: the sum of that over the integers
 -- begins_at hs w B   == - w * degree, the lowest exponent of L_B where the genera are within the slope w
--- log_sum hs w D T is v n B == the coefficient of q^n in P_(v-B) L_B: over the exponents of L_B from the lowest on, T of them
+-- log_term hs D is v n B m == the product of the coefficients of q^(n-m) in P_(v-B) and of q^m in L_B
+-- log_sum hs w D T is v n B == the coefficient of q^n in P_(v-B) L_B: the sum over T + 1 exponents of L_B from the lowest on
 -- HasMultiples hs v Bs D i == the multiples of the integer's class that have at most the degree of v are among the classes Bs
 -- IsRecurrence hs w D T is v n Bs == the classes Bs are distinct and have those multiples, for a class v of degree at most D,
 --                       and T is at least the weight of v at n
@@ -53,7 +57,8 @@ s_power g k m = s_power_to (natural m) g k m
 
 unfoldable pub log_of_integer : List ℤ → ℕ → List ℤ → ℤ → Integer → ℤ
 log_of_integer hs D B m i =
-    sum_below (λ k. when (same_vector (times (suc k) i.class) B) ((degree_of hs i.class *ℤ i.value) *ℤ s_power i.genus (suc k) m)) D
+    sum_below (λ k. when (same_vector (times (suc k) i.class) B) ((degree_of hs i.class *ℤ i.value) *ℤ s_power i.genus (suc k) m))
+    D
 
 unfoldable pub logarithm : List ℤ → ℕ → List Integer → List ℤ → ℤ → ℤ
 logarithm hs D is B m = total (log_of_integer hs D B m) is

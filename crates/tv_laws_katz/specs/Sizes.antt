@@ -39,10 +39,12 @@ AbsoluteIsProduct =
     weight w (place hs v n) ≤ℤ pos J → absolute_product hs is v n ≡ product (map without_sign (factors hs J is)) (place hs v n)
 
 abbrev pub SizeOfKatz : Type 0
-SizeOfKatz = (hs : List ℤ) (is : List Integer) (v : List ℤ) (n : ℤ) → pos (unsigned_abs (katz hs is v n)) ≤ℤ absolute_product hs is v n
+SizeOfKatz =
+    (hs : List ℤ) (is : List Integer) (v : List ℤ) (n : ℤ) → pos (unsigned_abs (katz hs is v n)) ≤ℤ absolute_product hs is v n
 
 abbrev pub SizesOfKatzTerms : Type 0
 SizesOfKatzTerms =
     (hs : List ℤ) (w D J : ℕ) (is : List Integer) (v : List ℤ) (n : ℤ) → AllByRecursion (IsWithinSlope hs w) is →
     degree_of hs v ≤ℤ pos D → weight w (place hs v n) ≤ℤ pos J →
-    pos (log_sizes D (factors hs J is) (product (factors hs J is)) (place hs v n)) ≤ℤ (degree_of hs v *ℤ absolute_product hs is v n)
+    pos (log_sizes D (factors hs J is) (product (factors hs J is)) (place hs v n)) ≤ℤ
+    (degree_of hs v *ℤ absolute_product hs is v n)

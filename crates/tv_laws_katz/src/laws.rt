@@ -21,13 +21,12 @@ pub fn larger_factors()
     ensures { LargerFactors }
 {}
 
-/// Where all genera are within a slope c, as many factors of genus 0 are enough as the weight, which is the exponent and c
-/// times the degree.
+/// Where no genus is above c * degree + 1, the factors of genus 0 up to the exponent and c times the degree are enough.
 pub fn katz_is_product()
     ensures { KatzIsProduct }
 {}
 
-/// And the product vanishes at weights below 0.
+/// And the product vanishes at exponents below -c times the degree.
 pub fn vanishes_by_slope()
     ensures { VanishesBySlope }
 {}
@@ -62,7 +61,7 @@ pub fn sizes_of_terms()
     ensures { SizesOfTerms }
 {}
 
-/// Of Katz's product without signs, too, more factors of genus 0 than the weight says change nothing.
+/// Those factors of genus 0 are enough for the product without signs, too.
 pub fn absolute_is_product()
     ensures { AbsoluteIsProduct }
 {}
