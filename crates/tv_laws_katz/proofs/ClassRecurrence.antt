@@ -41,18 +41,14 @@ use Rattle.tv_laws_katz.proofs.Powers.{power_sign-split}
 use Rattle.tv_laws_katz.proofs.Outside.{below-weight}
 use Rattle.tv_laws_katz.proofs.ProductRecurrence.{factor_recurrence, cancelled}
 use Rattle.tv_laws_katz.proofs.TermSizes.{factors-rise}
-use Rattle.tv_laws_katz.proofs.Totals.{spread, total-pick, total-sum_below, total-swap, total-scale, when-off, int_eq-apart}
-use Rattle.tv_laws_katz.proofs.Units.{product-below, natural-most}
+use Rattle.tv_laws_katz.proofs.Totals.{spread, at-most-or, total-pick, total-sum_below, total-swap, total-scale, when-off, int_eq-apart}
+use Rattle.tv_laws_katz.proofs.Units.{product-below, natural-most, natural-is}
 
 heavy-term : (hs : List ℤ) (w g T : ℕ) (i : Integer) → IsWithinSlope hs w i → i.genus ≡ g → (j : ℕ) → j < s_terms g T →
     pos 0 ≤ℤ weight w (place hs i.class (s_exponent g j))
 heavy-term hs w zero T i within e j h =
     omega (arith, ints, mul-nonneg-nonneg (pos w) (degree_of hs i.class) (omega (arith, ints)) (omega (arith, ints, within.positive)))
 heavy-term hs w (suc g) T i within e j h = omega (arith, ints, within.slope)
-
-natural-is : (z : ℤ) → pos 0 ≤ℤ z → z ≡ pos (natural z)
-natural-is (pos n) h = refl
-natural-is (negsuc n) h = absurd (omega (arith, ints))
 
 -- k times an exponent, from the lowest of the multiple on
 from-lowest : (hs : List ℤ) (w k : ℕ) (B : List ℤ) (m : ℤ) →
@@ -70,13 +66,6 @@ unfolding s_power s_power_to
 s_power-longer T zero k m h =
     sum_below-longer _ (natural m) T h (λ j l less. when-off (int_eq (pos (suc k * suc j)) m) (negsuc j) (int_eq-apart (pos (suc k * suc j)) m (beyond k j m l)))
 s_power-longer T (suc g) k m h = refl
-
-within-T : (T r : ℕ) (Z : Type 0) → (T < r → Z) → (r ≤ T) ⊎ Z
-within-T T r Z more = elim (sign (pos T -ℤ pos r)) [
-  | inl less ↦ inr (more (omega (arith, ints)))
-  | inr (inl same) ↦ inl (omega (arith, ints))
-  | inr (inr above) ↦ inl (omega (arith, ints))
-]
 
 multiple-rises : (hs : List ℤ) (k : ℕ) (B : List ℤ) → pos 1 ≤ℤ degree_of hs B → pos 0 ≤ℤ degree_of hs (times k B)
 multiple-rises hs k B h =
@@ -109,7 +98,7 @@ module _ (hs : List ℤ) (w T : ℕ) (is : List Integer) (v : List ℤ) (n : ℤ
       let is-r : pos (suc k) *ℤ weight w x ≡ pos r = natural-is (pos (suc k) *ℤ weight w x) (mul-nonneg-nonneg (pos (suc k)) (weight w x) (omega (arith, ints)) heavy) in (
         r,
         omega (arith, ints, from-lowest hs w (suc k) i.class m, is-r),
-        within-T T r (left (times (suc k) i.class) (pos (suc k) *ℤ m) ≡ pos 0) (λ more.
+        at-most-or T r (left (times (suc k) i.class) (pos (suc k) *ℤ m) ≡ pos 0) (λ more.
             ap series (sym (place-multiple hs (suc k) v i.class n m entries f)) ∙
             below-weight w (factors hs T is) (factors-heavy hs w T is all) (difference_by (suc k) (place hs v n) x) (omega (arith, ints, difference_by-weight w (suc k) (place hs v n) x, is-r))),
       )

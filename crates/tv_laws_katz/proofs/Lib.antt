@@ -3,6 +3,8 @@ pub mod ClassRecurrence
 pub mod Differences
 pub mod Elsewhere
 pub mod FurtherInteger
+pub mod GatheredFactors
+pub mod GatheredTerms
 pub mod IntegerLogs
 pub mod LargerBound
 pub mod Leading

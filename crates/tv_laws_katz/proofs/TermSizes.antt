@@ -1,7 +1,8 @@
 -- The sizes of coefficients and of the terms of the recurrence, by the factors without sign.
 --
 -- size-add, size-mul     sizes of a sum and of a product of numbers with bounds
--- sum_below-size         the size of a sum of terms with bounds
+-- sum_below-size         the size of a sum of terms with bounds; total_below-size, the sum of the sizes
+-- scaled-size            a size times a number
 -- power-size             the coefficient of a power of 1 - X is at most that of the power without sign
 -- size_of_product        the size of a coefficient
 -- sizes_of_terms         the sizes of all terms of the recurrence
@@ -67,17 +68,19 @@ size_of_product [] p = unit-size p
 size_of_product (f ∷ fs) p =
     sum_below-size _ _ (suc (natural p.degree)) (λ k h. size-mul (power_at f.power k) (product fs (difference_by k p f.at)) _ _ (power-size f.power k) (size_of_product fs (difference_by k p f.at)))
 
-total-size : (f : ℕ → ℕ) (g : ℕ → ℤ) (n : ℕ) → ((k : ℕ) → k < n → pos (f k) ≤ℤ g k) → pos (total_below f n) ≤ℤ sum_below g n
+pub total_below-size : (f : ℕ → ℕ) (g : ℕ → ℤ) (n : ℕ) → ((k : ℕ) → k < n → pos (f k) ≤ℤ g k) →
+    pos (total_below f n) ≤ℤ sum_below g n
 unfolding total_below sum_below
-total-size f g zero less = omega (arith, ints)
-total-size f g (suc n) less = omega (arith, ints, total-size f g n (λ k h. less k (omega arith)), less n (omega arith))
+total_below-size f g zero less = omega (arith, ints)
+total_below-size f g (suc n) less =
+    omega (arith, ints, total_below-size f g n (λ k h. less k (omega arith)), less n (omega arith))
 
 -- the factor in front, with and without signs
 front-size : (d e : ℤ) → pos 1 ≤ℤ d → pos (unsigned_abs (d *ℤ e)) ≡ d *ℤ neg_ℤ (neg_ℤ (pos (unsigned_abs e)))
 front-size (pos d) e h = rw (neg_ℤ-neg_ℤ (pos (unsigned_abs e))) (omega (arith, ints, unsigned_abs-mul (pos d) e))
 front-size (negsuc d) e h = absurd (omega (arith, ints))
 
-scaled-size : (c n : ℕ) (x y : ℤ) → pos c ≡ x → pos n ≤ℤ y → pos (c * n) ≤ℤ (x *ℤ y)
+pub scaled-size : (c n : ℕ) (x y : ℤ) → pos c ≡ x → pos n ≤ℤ y → pos (c * n) ≤ℤ (x *ℤ y)
 scaled-size c n x (pos m) e h =
     let less : c * n ≤ c * m = mul-le-mul_left c (omega (arith, ints)) in
     rw (← e) (omega (arith, ints, less))
@@ -87,7 +90,7 @@ log-size : (D : ℕ) (f : Factor) (P A : Place → ℤ) (p : Place) → IsRising
     pos (log_size D f P p) ≤ℤ log_of D (without_sign f) A p
 unfolding log_size log_of
 log-size D f P A p rising bound =
-    scaled-size _ _ _ _ (front-size f.at.degree f.power rising) (total-size _ _ D (λ j h. bound (difference_by (suc j) p f.at)))
+    scaled-size _ _ _ _ (front-size f.at.degree f.power rising) (total_below-size _ _ D (λ j h. bound (difference_by (suc j) p f.at)))
 
 logs-size : (D : ℕ) (fs : List Factor) (P A : Place → ℤ) (p : Place) → AllByRecursion IsRising fs →
     ((q : Place) → pos (unsigned_abs (P q)) ≤ℤ A q) → pos (log_sizes D fs P p) ≤ℤ logs D (map without_sign fs) A p

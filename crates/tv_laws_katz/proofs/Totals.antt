@@ -4,6 +4,7 @@
 -- total-sum_below            a sum over a list and one of terms may be exchanged; total-swap, two over lists
 -- sum_below-pick             of terms that are 0 unless x is at their place, the one there; total-pick, of a list
 -- int_eq-apart               the test of numbers that are not equal; when-on, when-off, a value under a test
+-- pick-or_none               the same of a term that may be 0; at-most-or, what holds above T, or at most T
 -- spread                     values at scattered places, gathered place by place
 use Rattle.std.specs.Prelude.{◌≡◌, ◌⊎◌, Contains, ℕ, zero, suc, ◌<◌, ◌≤◌, ℤ, pos, ◌+ℤ◌, ◌-ℤ◌, ◌*ℤ◌, Bool, true, false, List, [], ◌∷◌}
 use Rattle.std.specs.List.{AllByRecursion, IsDistinct}
@@ -81,13 +82,20 @@ sum_below-pick F c x low r (suc n) is h = elim (cases_eq r n) [
 ]
 
 -- where the place of x is further than T and its value is 0, both sides are 0
-pick-or_none : (F : ℤ → ℤ) (c x low : ℤ) (r T : ℕ) → x ≡ low +ℤ pos r → (r ≤ T) ⊎ (F x ≡ pos 0) →
+pub pick-or_none : (F : ℤ → ℤ) (c x low : ℤ) (r T : ℕ) → x ≡ low +ℤ pos r → (r ≤ T) ⊎ (F x ≡ pos 0) →
     sum_below (at F c x low) (suc T) ≡ F x *ℤ c
 pick-or_none F c x low r T is (inl h) = sum_below-pick F c x low r (suc T) is (omega arith)
 pick-or_none F c x low r T is (inr none) = elim (sign (pos T -ℤ pos r)) [
   | inl less ↦ pick-none F c x low r (suc T) is (omega (arith, ints)) ∙ (let e : F x *ℤ c ≡ pos 0 = rw none (zero-*ℤ c) in sym e)
   | inr (inl same) ↦ sum_below-pick F c x low r (suc T) is (omega (arith, ints))
   | inr (inr more) ↦ sum_below-pick F c x low r (suc T) is (omega (arith, ints))
+]
+
+pub at-most-or : (T r : ℕ) (Z : Type 0) → (T < r → Z) → (r ≤ T) ⊎ Z
+at-most-or T r Z more = elim (sign (pos T -ℤ pos r)) [
+  | inl less ↦ inr (more (omega (arith, ints)))
+  | inr (inl same) ↦ inl (omega (arith, ints))
+  | inr (inr above) ↦ inl (omega (arith, ints))
 ]
 
 -- values at places from low on, where those further than T are 0

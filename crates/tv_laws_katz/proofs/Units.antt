@@ -5,7 +5,7 @@
 -- product-low       at degrees of at most 0 a product is the unit; product-below, at degrees below 0 it is 0
 -- times-same        a factor times series that agree at the places that count
 -- product-longer    powers of X beyond the degree change nothing
--- natural-most      a whole number up to n is at most n as a natural one
+-- natural-most      a whole number up to n is at most n as a natural one; natural-is, from 0 on it is that one
 use Rattle.std.specs.Prelude.{◌≡◌, ℕ, zero, suc, ◌≤◌, ◌<◌, ℤ, pos, negsuc, ◌*ℤ◌, ◌≤ℤ◌, ◌<ℤ◌, List, [], ◌∷◌, Bool, true, false, ◌&&◌, if◌then◌else◌}
 use Rattle.std.proofs.Common.{refl, ap, arith, ◌∙◌, sym}
 use Rattle.std.proofs.Math.IntN.{*ℤ-zero}
@@ -77,6 +77,10 @@ natural-at (negsuc n) k h = omega (arith, ints)
 pub natural-most : (z : ℤ) (n : ℕ) → z ≤ℤ pos n → natural z ≤ n
 natural-most (pos m) n h = omega (arith, ints)
 natural-most (negsuc m) n h = omega (arith, ints)
+
+pub natural-is : (z : ℤ) → pos 0 ≤ℤ z → z ≡ pos (natural z)
+natural-is (pos n) h = refl
+natural-is (negsuc n) h = absurd (omega (arith, ints))
 
 pub left-below : (k : ℕ) (p x : Place) → pos 1 ≤ℤ x.degree → p.degree <ℤ pos k → (difference_by k p x).degree <ℤ pos 0
 left-below k p x rising less = omega (arith, ints, difference_by-degree k p x, taken-below k p.degree x.degree rising less)

@@ -1,4 +1,5 @@
 pub mod Further
+pub mod Gathered
 pub mod Logarithm
 pub mod Recurrence
 pub mod Sizes

@@ -1,6 +1,7 @@
 //! Laws of Katz's product over integers: each function does nothing, and its contract is a law.
 
 ghost use Rattle.tv_laws_katz.specs.Further.{NewInteger, Unchanged};
+ghost use Rattle.tv_laws_katz.specs.Gathered.{GatheredRecurrence, GatheredSizes};
 ghost use Rattle.tv_laws_katz.specs.Logarithm.{KatzRecurrence, KatzDivision};
 ghost use Rattle.tv_laws_katz.specs.Recurrence.{FactorRecurrence, FactorDivision};
 ghost use Rattle.tv_laws_katz.specs.Sizes.{SizeOfProduct, SizesOfTerms, AbsoluteIsProduct, SizeOfKatz, SizesOfKatzTerms};
@@ -85,4 +86,14 @@ pub fn katz_recurrence()
 /// So the degree divides that sum, and the quotient is the coefficient.
 pub fn katz_division()
     ensures { KatzDivision }
+{}
+
+/// In the recurrence of a product the exponents of the factors with one class and one power of y may be added up first.
+pub fn gathered_recurrence()
+    ensures { GatheredRecurrence }
+{}
+
+/// And the sizes of all terms are then still at most degree times the product without signs.
+pub fn gathered_sizes()
+    ensures { GatheredSizes }
 {}
