@@ -27,7 +27,7 @@ use Rattle.tv_laws_katz.specs.Weights.{weight, IsRising, IsHeavy, IsWithinSlope}
 use Rattle.tv_laws_katz.proofs.FurtherInteger.{IsFactorOf, factors-are, same-degree}
 use Rattle.tv_laws_katz.specs.Recurrence.{log_of, logs}
 use Rattle.tv_laws_katz.specs.Logarithm.{when, begins_at}
-use Rattle.tv_laws_katz.specs.Gathered.{sum_in, power_in, gathered, gathered_sum, IsListedFactor, GatheredRecurrence}
+use Rattle.tv_laws_katz.specs.Gathered.{total_in, power_in, gathered_factor, gathered_sum, IsListedFactor, GatheredRecurrence}
 use Rattle.tv_laws_katz.proofs.BelowSums.{sum_below-same, sum_below-none}
 use Rattle.tv_laws_katz.proofs.Totals.{total-pick, total-sum_below, total-swap, total-scale, pick-or_none, at-most-or}
 use Rattle.tv_laws_katz.proofs.Differences.{difference_by-lower, weight-difference}
@@ -77,7 +77,7 @@ when-below false g n = sym (sum_below-none (λ t. pos 0) n (λ t h. refl))
 
 pub gather : (hs : List ℤ) (w T : ℕ) (K : Place → ℤ) (c : Factor → ℤ) (p : Place) (Bs : List (List ℤ)) (fs : List Factor) →
     IsUpTo w T p.degree K → IsDistinct same_vector Bs → AllByRecursion (IsListedFactor hs w Bs p) fs →
-    total (λ f. K f.at *ℤ c f) fs ≡ total (λ B. sum_below (λ t. K (place hs B (begins_at hs w B +ℤ pos t)) *ℤ sum_in c fs B (begins_at hs w B +ℤ pos t)) (suc T)) Bs
+    total (λ f. K f.at *ℤ c f) fs ≡ total (λ B. sum_below (λ t. K (place hs B (begins_at hs w B +ℤ pos t)) *ℤ total_in c fs B (begins_at hs w B +ℤ pos t)) (suc T)) Bs
 gather hs w T K c p Bs fs upto once all =
     let m = λ (B : List ℤ) (t : ℕ). begins_at hs w B +ℤ pos t in
     let X = λ (B : List ℤ) (t : ℕ) (f : Factor). when (same_vector f.at.class B) (when (int_eq f.at.exponent (m B t)) (c f)) in
@@ -141,7 +141,7 @@ gathered_recurrence hs w D T fs p Bs given =
     factor_recurrence D fs p (all-rising hs w Bs p fs given.factors) given.degree ∙
     (total-same _ _ fs (all-any _ (λ f. log-linear D P p f) fs) ∙
     (gather hs w T (log_at D P p) (λ f. f.power) p Bs fs (log-upto w T D fs p heavy given.room) given.once given.factors ∙
-    total-same _ _ Bs (all-any _ (λ B. sum_below-same _ _ (suc T) (λ t h. sym (log-linear D P p (gathered hs fs B (begins_at hs w B +ℤ pos t))))) Bs)))
+    total-same _ _ Bs (all-any _ (λ B. sum_below-same _ _ (suc T) (λ t h. sym (log-linear D P p (gathered_factor hs fs B (begins_at hs w B +ℤ pos t))))) Bs)))
 
 -- the factors of integers whose classes are listed, or have more than the degree of p
 pub factors-listed : (hs : List ℤ) (w J : ℕ) (Bs : List (List ℤ)) (p : Place) (is : List Integer) →

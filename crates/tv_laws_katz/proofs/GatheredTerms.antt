@@ -1,7 +1,7 @@
 -- The sizes of the terms of the recurrence over factors gathered by class and exponent.
 --
 -- pos-sum_of        a sum of natural numbers is at most one of whole numbers, where each is; pos-total, the same as an equation
--- sum_in-size       the size of a gathered exponent is at most the sum of the sizes
+-- total_in-size       the size of a gathered exponent is at most the sum of the sizes
 -- gathered_sizes    the sizes of all terms
 use Rattle.std.specs.Prelude.{◌≡◌, ℕ, zero, suc, ◌*◌, ◌≤◌, ℤ, pos, negsuc, ◌+ℤ◌, ◌*ℤ◌, ◌≤ℤ◌, unsigned_abs, Bool, true, false, List, [], ◌∷◌}
 use Rattle.std.specs.List.{AllByRecursion}
@@ -17,7 +17,7 @@ use Rattle.tv_spec_katz.specs.Product.{Factor, product}
 use Rattle.tv_laws_katz.specs.Weights.{weight, IsHeavy}
 use Rattle.tv_laws_katz.specs.Sizes.{log_size, log_sizes}
 use Rattle.tv_laws_katz.specs.Logarithm.{when, begins_at}
-use Rattle.tv_laws_katz.specs.Gathered.{sum_in, power_in, gathered, gathered_size, GatheredSizes}
+use Rattle.tv_laws_katz.specs.Gathered.{total_in, power_in, gathered_factor, gathered_size, GatheredSizes}
 use Rattle.tv_laws_katz.proofs.GatheredFactors.{gather, IsUpTo, all-heavy, all-rising, left-high, left-beyond}
 use Rattle.tv_laws_katz.proofs.TermSizes.{total_below-size, sizes_of_terms}
 
@@ -43,9 +43,9 @@ total-size_of f g (x ∷ xs) same = omega (arith, ints, same x, total-size_of f 
 abbrev power_size : Factor → ℤ
 power_size f = pos (unsigned_abs f.power)
 
-sum_in-size : (fs : List Factor) (B : List ℤ) (m : ℤ) → pos (unsigned_abs (power_in fs B m)) ≤ℤ sum_in power_size fs B m
+total_in-size : (fs : List Factor) (B : List ℤ) (m : ℤ) → pos (unsigned_abs (power_in fs B m)) ≤ℤ total_in power_size fs B m
 unfolding power_in
-sum_in-size fs B m = total-size_of _ _ fs (λ f. when-size (same_vector f.at.class B) (int_eq f.at.exponent m) f.power)
+total_in-size fs B m = total-size_of _ _ fs (λ f. when-size (same_vector f.at.class B) (int_eq f.at.exponent m) f.power)
 
 -- without the exponent: |degree| * (|P (p - X)| + ..)
 abbrev size_at : ℕ → (Place → ℤ) → Place → Place → ℕ
@@ -83,9 +83,9 @@ times-more a c (pos d) h =
 times-more a c (negsuc d) h = absurd (omega (arith, ints))
 
 gathered-term : (hs : List ℤ) (D : ℕ) (fs : List Factor) (p : Place) (B : List ℤ) (m : ℤ) →
-    pos (log_size D (gathered hs fs B m) (product fs) p) ≤ℤ (pos (size_at D (product fs) p (place hs B m)) *ℤ sum_in power_size fs B m)
+    pos (log_size D (gathered_factor hs fs B m) (product fs) p) ≤ℤ (pos (size_at D (product fs) p (place hs B m)) *ℤ total_in power_size fs B m)
 gathered-term hs D fs p B m =
-    omega (arith, ints, size-linear D (product fs) p (gathered hs fs B m), times-more (size_at D (product fs) p (place hs B m)) (unsigned_abs (power_in fs B m)) (sum_in power_size fs B m) (sum_in-size fs B m))
+    omega (arith, ints, size-linear D (product fs) p (gathered_factor hs fs B m), times-more (size_at D (product fs) p (place hs B m)) (unsigned_abs (power_in fs B m)) (total_in power_size fs B m) (total_in-size fs B m))
 
 pub gathered_sizes : GatheredSizes
 unfolding gathered_size log_sizes
@@ -96,6 +96,6 @@ gathered_sizes hs w D T fs p Bs given =
     let heavy = all-heavy hs w Bs p fs given.factors in
     let whole = pos-total (λ f. log_size D f P p) (λ f. A f.at *ℤ power_size f) fs (λ f. ap pos (size-linear D P p f)) in
     let apart = gather hs w T A power_size p Bs fs (size-upto w T D fs p heavy given.room) given.once given.factors in
-    let less = pos-sum_of (gathered_size hs w D T fs p) (λ B. sum_below (λ t. A (place hs B (m B t)) *ℤ sum_in power_size fs B (m B t)) (suc T)) Bs
+    let less = pos-sum_of (gathered_size hs w D T fs p) (λ B. sum_below (λ t. A (place hs B (m B t)) *ℤ total_in power_size fs B (m B t)) (suc T)) Bs
     (λ B. total_below-size _ _ (suc T) (λ t h. gathered-term hs D fs p B (m B t))) in
     omega (arith, ints, whole, apart, less, sizes_of_terms D fs p (all-rising hs w Bs p fs given.factors) given.degree)

@@ -1,9 +1,9 @@
 -- The recurrence over factors that are gathered by class and exponent: of the factors at one place the exponents add up. So
 -- each class has few factors, and no power of s is written out.
 --
--- sum_in c fs B m       == the sum of a value c over the factors at the class B and y^m
+-- total_in c fs B m     == the sum of a value c over the factors at the class B and y^m
 -- power_in fs B m       == the sum of the exponents e of the factors (1 - y^m Q^B)^e
--- gathered hs fs B m    == the factor (1 - y^m Q^B)^e with that exponent
+-- gathered_factor hs fs B m == the factor (1 - y^m Q^B)^e with that exponent
 -- gathered_sum hs w D T fs p B == what the gathered factors of B add at p: those at T + 1 exponents from - w * degree on
 -- gathered_size hs w D T fs p B == the sizes of these terms
 -- IsListedFactor hs w Bs p f == the factor has the degree of its class by the heights, at least 1, a weight of at least 0, and a
@@ -26,20 +26,20 @@ use Rattle.tv_laws_katz.specs.Recurrence.{log_of}
 use Rattle.tv_laws_katz.specs.Sizes.{log_size}
 use Rattle.tv_laws_katz.specs.Logarithm.{when, begins_at}
 
-abbrev pub sum_in : (Factor → ℤ) → List Factor → List ℤ → ℤ → ℤ
-sum_in c fs B m = total (λ f. when (same_vector f.at.class B) (when (int_eq f.at.exponent m) (c f))) fs
+abbrev pub total_in : (Factor → ℤ) → List Factor → List ℤ → ℤ → ℤ
+total_in c fs B m = total (λ f. when (same_vector f.at.class B) (when (int_eq f.at.exponent m) (c f))) fs
 
 unfoldable pub power_in : List Factor → List ℤ → ℤ → ℤ
-power_in fs B m = sum_in (λ f. f.power) fs B m
+power_in fs B m = total_in (λ f. f.power) fs B m
 
-abbrev pub gathered : List ℤ → List Factor → List ℤ → ℤ → Factor
-gathered hs fs B m = record { at = place hs B m; power = power_in fs B m }
+abbrev pub gathered_factor : List ℤ → List Factor → List ℤ → ℤ → Factor
+gathered_factor hs fs B m = record { at = place hs B m; power = power_in fs B m }
 
 unfoldable pub gathered_sum : List ℤ → ℕ → ℕ → ℕ → List Factor → Place → List ℤ → ℤ
-gathered_sum hs w D T fs p B = sum_below (λ t. log_of D (gathered hs fs B (begins_at hs w B +ℤ pos t)) (product fs) p) (suc T)
+gathered_sum hs w D T fs p B = sum_below (λ t. log_of D (gathered_factor hs fs B (begins_at hs w B +ℤ pos t)) (product fs) p) (suc T)
 
 unfoldable pub gathered_size : List ℤ → ℕ → ℕ → ℕ → List Factor → Place → List ℤ → ℕ
-gathered_size hs w D T fs p B = total_below (λ t. log_size D (gathered hs fs B (begins_at hs w B +ℤ pos t)) (product fs) p) (suc T)
+gathered_size hs w D T fs p B = total_below (λ t. log_size D (gathered_factor hs fs B (begins_at hs w B +ℤ pos t)) (product fs) p) (suc T)
 
 pub record IsListedFactor (hs : List ℤ) (w : ℕ) (Bs : List (List ℤ)) (p : Place) (f : Factor) : Type 0 where
   pub graded : f.at ≡ place hs f.at.class f.at.exponent
