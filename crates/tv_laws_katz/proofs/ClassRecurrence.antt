@@ -13,7 +13,7 @@ use Rattle.std.proofs.Common.{refl, sym, ap, arith, ◌∙◌, inl, inr}
 use Rattle.std.proofs.Math.IntN.{*ℤ-zero, zero-*ℤ}
 use Rattle.std.proofs.lemmas.Int.{ints}
 use Rattle.std.proofs.lemmas.List.{length-map}
-use Rattle.tv_laws_series.specs.Terms.{natural}
+use Rattle.tv_lemmas.specs.Naturals.{as_natural}
 use Rattle.tv_lemmas.specs.Sums.{total}
 use Rattle.tv_lemmas.proofs.Integers.{mul-add}
 use Rattle.tv_lemmas.proofs.Signs.{sign, mul-nonneg-nonneg}
@@ -56,15 +56,15 @@ from-lowest : (hs : List ℤ) (w k : ℕ) (B : List ℤ) (m : ℤ) →
 from-lowest hs w k B m =
     omega (arith, ints, ap (λ z. pos w *ℤ z) (degree_of-times hs k B), mul-add (pos k) m (pos w *ℤ degree_of hs B), mul-middle (pos w) (pos k) (degree_of hs B))
 
-beyond : (k j : ℕ) (m : ℤ) → natural m ≤ j → pos (suc k * suc j) ≡ m → ⊥
+beyond : (k j : ℕ) (m : ℤ) → as_natural m ≤ j → pos (suc k * suc j) ≡ m → ⊥
 beyond k j (pos m) h e = omega (arith, ints, e)
 beyond k j (negsuc m) h e = omega (arith, ints, e)
 
 -- in genus 0 the terms beyond m have exponents above it
-s_power-longer : (T g k : ℕ) (m : ℤ) → natural m ≤ T → s_power_to T g (suc k) m ≡ s_power g (suc k) m
+s_power-longer : (T g k : ℕ) (m : ℤ) → as_natural m ≤ T → s_power_to T g (suc k) m ≡ s_power g (suc k) m
 unfolding s_power s_power_to
 s_power-longer T zero k m h =
-    sum_below-longer _ (natural m) T h (λ j l less. when-off (int_eq (pos (suc k * suc j)) m) (negsuc j) (int_eq-apart (pos (suc k * suc j)) m (beyond k j m l)))
+    sum_below-longer _ (as_natural m) T h (λ j l less. when-off (int_eq (pos (suc k * suc j)) m) (negsuc j) (int_eq-apart (pos (suc k * suc j)) m (beyond k j m l)))
 s_power-longer T (suc g) k m h = refl
 
 multiple-rises : (hs : List ℤ) (k : ℕ) (B : List ℤ) → pos 1 ≤ℤ degree_of hs B → pos 0 ≤ℤ degree_of hs (times k B)
@@ -72,7 +72,7 @@ multiple-rises hs k B h =
     omega (arith, ints, degree_of-times hs k B, mul-nonneg-nonneg (pos k) (degree_of hs B) (omega (arith, ints)) (omega (arith, ints)))
 
 lowest-low : (hs : List ℤ) (w k t T : ℕ) (B : List ℤ) → pos 1 ≤ℤ degree_of hs B → t ≤ T →
-    natural (begins_at hs w (times k B) +ℤ pos t) ≤ T
+    as_natural (begins_at hs w (times k B) +ℤ pos t) ≤ T
 lowest-low hs w k t T B h l = natural-most (begins_at hs w (times k B) +ℤ pos t) T
     (omega (arith, ints, mul-nonneg-nonneg (pos w) (degree_of hs (times k B)) (omega (arith, ints)) (multiple-rises hs k B h)))
 
@@ -94,7 +94,7 @@ module _ (hs : List ℤ) (w T : ℕ) (is : List Integer) (v : List ℤ) (n : ℤ
       let m = s_exponent i.genus j in
       let x = place hs i.class m in
       let heavy = heavy-term hs w i.genus T i within refl j h in
-      let r = natural (pos (suc k) *ℤ weight w x) in
+      let r = as_natural (pos (suc k) *ℤ weight w x) in
       let is-r : pos (suc k) *ℤ weight w x ≡ pos r = natural-is (pos (suc k) *ℤ weight w x) (mul-nonneg-nonneg (pos (suc k)) (weight w x) (omega (arith, ints)) heavy) in (
         r,
         omega (arith, ints, from-lowest hs w (suc k) i.class m, is-r),

@@ -15,7 +15,7 @@ use Rattle.std.proofs.lemmas.Int.{ints}
 use Rattle.tv_lemmas.specs.Sums.{total}
 use Rattle.tv_lemmas.proofs.Members.{all-any, all-onto, all-both, all-append, all-front}
 use Rattle.tv_lemmas.proofs.Sums.{total-same, total-all}
-use Rattle.tv_laws_series.specs.Terms.{natural}
+use Rattle.tv_lemmas.specs.Naturals.{as_natural}
 use Rattle.tv_spec_plane.specs.Web.{degree_of}
 use Rattle.tv_spec_boxes.specs.Assignments.{same_vector}
 use Rattle.tv_spec_boxes.proofs.Vectors.{same_vector-same, same_vector_tells}
@@ -52,7 +52,7 @@ gather-one : (hs : List ℤ) (w T : ℕ) (K : Place → ℤ) (c : ℤ) (p : Plac
 gather-one hs w T K c p Bs f upto once is =
     let F = λ (m : ℤ). K (place hs f.at.class m) in
     let low = begins_at hs w f.at.class in
-    let r = natural (weight w f.at) in
+    let r = as_natural (weight w f.at) in
     let same = ap (λ (x : Place). x.degree) is.graded in
     let place-is : f.at.exponent ≡ low +ℤ pos r = omega (arith, ints, natural-is (weight w f.at) is.heavy, ap (λ z. pos w *ℤ z) same) in
     let value : F f.at.exponent ≡ K f.at = ap K (sym is.graded) in

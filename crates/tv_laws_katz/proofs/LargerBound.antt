@@ -15,7 +15,7 @@ use Rattle.std.proofs.lemmas.Int.{ints}
 use Rattle.std.proofs.lemmas.List.{map-append, map-id}
 use Rattle.tv_lemmas.proofs.Members.{all-onto, all-append, all-map, all-flat_map}
 use Rattle.tv_lemmas.proofs.Signs.{mul-nonneg-nonneg}
-use Rattle.tv_laws_series.specs.Terms.{natural}
+use Rattle.tv_lemmas.specs.Naturals.{as_natural}
 use Rattle.tv_spec_plane.specs.Web.{degree_of}
 use Rattle.tv_spec_katz.specs.Binomials.{power_sign}
 use Rattle.tv_spec_katz.specs.Places.{Place, place, difference_by}
@@ -41,13 +41,13 @@ pub front-agrees : (w : ℕ) (m : ℤ) (fs gs hs : List Factor) → AllByRecursi
     AgreeUpTo w m (fs ++ gs) (fs ++ hs)
 unfolding product
 front-agrees w m [] gs hs heavy same p h = same p h
-front-agrees w m (f ∷ fs) gs hs heavy same p h = times-same (natural p.degree) f (product (fs ++ gs)) (product (fs ++ hs)) p
+front-agrees w m (f ∷ fs) gs hs heavy same p h = times-same (as_natural p.degree) f (product (fs ++ gs)) (product (fs ++ hs)) p
     (λ k l. front-agrees w m fs gs hs heavy.1 same (difference_by k p f.at) (omega (arith, ints, less-weight w k p f.at heavy.0)))
 
 pub heavy-factor : (w : ℕ) (f : Factor) (fs : List Factor) → IsHeavy w f → AllByRecursion (IsHeavy w) fs → (p : Place) →
     weight w p <ℤ weight w f.at → product (f ∷ fs) p ≡ product fs p
 unfolding product
-heavy-factor w f fs here heavy p less = times-first (natural p.degree) f (product fs) p (λ k h.
+heavy-factor w f fs here heavy p less = times-first (as_natural p.degree) f (product fs) p (λ k h.
     below-weight w fs heavy (difference_by (suc k) p f.at) (omega (arith, ints, difference_by-weight w (suc k) p f.at, suc-times k (weight w f.at), mul-nonneg-nonneg (pos k) (weight w f.at) (omega (arith, ints)) here)))
 
 -- the weight of a factor of genus 0 is at least its power of y
@@ -137,7 +137,7 @@ pub positive-all : (hs : List ℤ) (w : ℕ) (is : List Integer) → AllByRecurs
     AllByRecursion (IsPositive hs) is
 positive-all hs w is within = all-onto (IsWithinSlope hs w) (IsPositive hs) (λ i h. h.positive) is within
 
-weight-bound : (w : ℕ) (n z : ℤ) → (n +ℤ (pos w *ℤ z)) ≤ℤ pos (unsigned_abs n + w * natural z)
+weight-bound : (w : ℕ) (n z : ℤ) → (n +ℤ (pos w *ℤ z)) ≤ℤ pos (unsigned_abs n + w * as_natural z)
 weight-bound w (pos n) (pos z) = omega (arith, ints)
 weight-bound w (negsuc n) (pos z) = omega (arith, ints)
 weight-bound w (pos n) (negsuc z) = omega (arith, ints)

@@ -9,7 +9,7 @@ use Rattle.std.specs.List.{AllByRecursion}
 use Rattle.std.proofs.Common.{refl, ap, arith, ◌∙◌, mul-le-mul_right}
 use Rattle.std.proofs.Math.IntN.{*ℤ-zero}
 use Rattle.std.proofs.lemmas.Int.{ints}
-use Rattle.tv_laws_series.specs.Terms.{natural}
+use Rattle.tv_lemmas.specs.Naturals.{as_natural}
 use Rattle.tv_spec_katz.specs.Binomials.{power_at, sum_below}
 use Rattle.tv_spec_katz.specs.Places.{Place, difference, difference_by, unit}
 use Rattle.tv_spec_katz.specs.Product.{Factor, times, product}
@@ -45,15 +45,15 @@ no-third n f gs p high =
     sum_below-longer (λ k. power_at f.power k *ℤ product gs (difference_by k p f.at)) 2 (suc (suc n)) (omega arith) (λ k l h.
     ap (λ z. power_at f.power k *ℤ z) (product-below gs (difference_by k p f.at) (omega (arith, ints, difference_by-degree k p f.at, taken-twice k p.degree f.at.degree l high.rising high.high))) ∙ *ℤ-zero (power_at f.power k))
 
-natural-above : (z : ℤ) → z ≤ℤ pos (suc (natural z))
+natural-above : (z : ℤ) → z ≤ℤ pos (suc (as_natural z))
 natural-above (pos n) = omega (arith, ints)
 natural-above (negsuc n) = omega (arith, ints)
 
 pub first_order_one : (f : Factor) (gs : List Factor) (p : Place) → IsHigh p.degree f →
     product (f ∷ gs) p ≡ product gs p +ℤ (power_at f.power 1 *ℤ unit (difference p f.at))
 first_order_one f gs p high =
-    product-longer (suc (natural p.degree)) f gs p high.rising (natural-above p.degree) ∙
-    (no-third (natural p.degree) f gs p high ∙
+    product-longer (suc (as_natural p.degree)) f gs p high.rising (natural-above p.degree) ∙
+    (no-third (as_natural p.degree) f gs p high ∙
     (two-terms f (product gs) p ∙ ap (λ z. product gs p +ℤ (power_at f.power 1 *ℤ z)) (product-low gs (difference p f.at) (omega (arith, ints, high.high)))))
 
 pub first_order : (fs gs : List Factor) (p : Place) → AllByRecursion (IsHigh p.degree) fs →

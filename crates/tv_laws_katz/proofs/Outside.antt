@@ -9,7 +9,7 @@ use Rattle.std.specs.List.{AllByRecursion}
 use Rattle.std.proofs.Common.{ap, arith, ◌∙◌}
 use Rattle.std.proofs.Math.IntN.{*ℤ-zero}
 use Rattle.std.proofs.lemmas.Int.{ints}
-use Rattle.tv_laws_series.specs.Terms.{natural}
+use Rattle.tv_lemmas.specs.Naturals.{as_natural}
 use Rattle.tv_lemmas.proofs.Members.{all-onto}
 use Rattle.tv_spec_katz.specs.Binomials.{power_at}
 use Rattle.tv_spec_katz.specs.Places.{Place, difference, difference_by}
@@ -31,7 +31,7 @@ pub outside : (S : Place → Type 0) → ((p : Place) → IsUnit p → S p) → 
     (p : Place) → (S p → ⊥) → product fs p ≡ pos 0
 unfolding product times
 outside S has [] closed p out = unit-none p (λ is. out (has p is))
-outside S has (f ∷ fs) closed p out = sum_below-none _ (suc (natural p.degree)) (λ k h.
+outside S has (f ∷ fs) closed p out = sum_below-none _ (suc (as_natural p.degree)) (λ k h.
     ap (λ z. power_at f.power k *ℤ z) (outside S has fs closed.1 (difference_by k p f.at) (λ s. out (closed-by S f closed.0 k p s))) ∙ *ℤ-zero (power_at f.power k))
 
 unit-weight : (w : ℕ) (p : Place) → IsUnit p → weight w p ≡ pos 0

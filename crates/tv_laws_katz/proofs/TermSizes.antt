@@ -14,7 +14,7 @@ use Rattle.std.proofs.Common.{refl, arith, mul-le-mul, mul-le-mul_left}
 use Rattle.std.proofs.Math.IntN.{*ℤ-zero, neg_ℤ-neg_ℤ}
 use Rattle.std.proofs.lemmas.Int.{ints, unsigned_abs-mul}
 use Rattle.tv_ring.specs.Sums.{total_below}
-use Rattle.tv_laws_series.specs.Terms.{natural}
+use Rattle.tv_lemmas.specs.Naturals.{as_natural}
 use Rattle.tv_lemmas.proofs.Members.{all-map, all-onto, all-flat_map}
 use Rattle.tv_spec_katz.specs.Binomials.{choose, power_sign, binomial, power_at, sum_below}
 use Rattle.tv_spec_katz.specs.Places.{Place, place, difference_by, unit, is_zero_class}
@@ -66,7 +66,7 @@ pub size_of_product : SizeOfProduct
 unfolding product times
 size_of_product [] p = unit-size p
 size_of_product (f ∷ fs) p =
-    sum_below-size _ _ (suc (natural p.degree)) (λ k h. size-mul (power_at f.power k) (product fs (difference_by k p f.at)) _ _ (power-size f.power k) (size_of_product fs (difference_by k p f.at)))
+    sum_below-size _ _ (suc (as_natural p.degree)) (λ k h. size-mul (power_at f.power k) (product fs (difference_by k p f.at)) _ _ (power-size f.power k) (size_of_product fs (difference_by k p f.at)))
 
 pub total_below-size : (f : ℕ → ℕ) (g : ℕ → ℤ) (n : ℕ) → ((k : ℕ) → k < n → pos (f k) ≤ℤ g k) →
     pos (total_below f n) ≤ℤ sum_below g n

@@ -11,7 +11,7 @@ use Rattle.std.proofs.Common.{refl, ap, arith, ◌∙◌, sym}
 use Rattle.std.proofs.Math.IntN.{*ℤ-zero}
 use Rattle.std.proofs.lemmas.Int.{ints}
 use Rattle.std.proofs.lemmas.Bool.Decides.{Decides-int_eq}
-use Rattle.tv_laws_series.specs.Terms.{natural}
+use Rattle.tv_lemmas.specs.Naturals.{as_natural}
 use Rattle.tv_spec_katz.specs.Binomials.{power_at}
 use Rattle.tv_spec_katz.specs.Places.{Place, difference_by, is_zero_class, unit}
 use Rattle.tv_spec_katz.specs.Product.{Factor, times, product}
@@ -56,7 +56,7 @@ times-first most f P p none =
     sum_below-first (λ k. power_at f.power k *ℤ P (difference_by k p f.at)) most (λ k h. ap (λ z. power_at f.power (suc k) *ℤ z) (none k h) ∙ *ℤ-zero (power_at f.power (suc k))) ∙
     (ap (λ z. z *ℤ P p) (power_at-zero f.power) ∙ one-mul (P p))
 
-natural-low : (z : ℤ) → z ≤ℤ pos 0 → natural z ≡ 0
+natural-low : (z : ℤ) → z ≤ℤ pos 0 → as_natural z ≡ 0
 natural-low (pos zero) h = refl
 natural-low (pos (suc n)) h = absurd (omega (arith, ints))
 natural-low (negsuc n) h = refl
@@ -70,15 +70,15 @@ product-low (f ∷ fs) p low =
 pub product-below : (fs : List Factor) (p : Place) → p.degree <ℤ pos 0 → product fs p ≡ pos 0
 product-below fs p below = product-low fs p (omega (arith, ints)) ∙ unit-none p (λ is. absurd (omega (arith, ints, is.degree)))
 
-natural-at : (z : ℤ) (k : ℕ) → suc (natural z) ≤ k → z <ℤ pos k
+natural-at : (z : ℤ) (k : ℕ) → suc (as_natural z) ≤ k → z <ℤ pos k
 natural-at (pos n) k h = omega (arith, ints)
 natural-at (negsuc n) k h = omega (arith, ints)
 
-pub natural-most : (z : ℤ) (n : ℕ) → z ≤ℤ pos n → natural z ≤ n
+pub natural-most : (z : ℤ) (n : ℕ) → z ≤ℤ pos n → as_natural z ≤ n
 natural-most (pos m) n h = omega (arith, ints)
 natural-most (negsuc m) n h = omega (arith, ints)
 
-pub natural-is : (z : ℤ) → pos 0 ≤ℤ z → z ≡ pos (natural z)
+pub natural-is : (z : ℤ) → pos 0 ≤ℤ z → z ≡ pos (as_natural z)
 natural-is (pos n) h = refl
 natural-is (negsuc n) h = absurd (omega (arith, ints))
 
@@ -89,5 +89,5 @@ pub product-longer : (D : ℕ) (f : Factor) (fs : List Factor) (p : Place) → I
     product (f ∷ fs) p ≡ times D f (product fs) p
 unfolding product times
 product-longer D f fs p rising most =
-    sym (sum_below-longer (λ k. power_at f.power k *ℤ product fs (difference_by k p f.at)) (suc (natural p.degree)) (suc D) (omega (arith, natural-most p.degree D most)) (λ k l h.
+    sym (sum_below-longer (λ k. power_at f.power k *ℤ product fs (difference_by k p f.at)) (suc (as_natural p.degree)) (suc D) (omega (arith, natural-most p.degree D most)) (λ k l h.
     ap (λ z. power_at f.power k *ℤ z) (product-below fs (difference_by k p f.at) (left-below k p f.at rising (natural-at p.degree k l))) ∙ *ℤ-zero (power_at f.power k)))

@@ -25,7 +25,7 @@ use Rattle.std.specs.Prelude.{◌≡◌, Contains, ℕ, zero, suc, ◌+◌, ◌*
 use Rattle.std.specs.List.{AllByRecursion, IsDistinct}
 use Rattle.std.specs.Ordering.{int_eq}
 use Rattle.tv_lemmas.specs.Sums.{total}
-use Rattle.tv_laws_series.specs.Terms.{natural}
+use Rattle.tv_lemmas.specs.Naturals.{as_natural}
 use Rattle.tv_spec_plane.specs.Web.{degree_of}
 use Rattle.tv_spec_boxes.specs.Assignments.{times, same_vector}
 use Rattle.tv_spec_katz.specs.Binomials.{choose, power_sign, sum_below}
@@ -53,7 +53,7 @@ s_power_to J g k m = sum_below (λ j. when (int_eq (pos k *ℤ s_exponent g j) m
 
 -- in genus 0 the term j has an exponent above j
 unfoldable pub s_power : ℕ → ℕ → ℤ → ℤ
-s_power g k m = s_power_to (natural m) g k m
+s_power g k m = s_power_to (as_natural m) g k m
 
 unfoldable pub log_of_integer : List ℤ → ℕ → List ℤ → ℤ → Integer → ℤ
 log_of_integer hs D B m i =
