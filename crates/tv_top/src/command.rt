@@ -133,11 +133,7 @@ fn summary(rest: &[String]) -> Result<Command, WordsError>
     if !rest.is_empty() {
         return Err(WordsError::At(4));
     }
-    Ok(Command::Summary {
-        side,
-        degree,
-        upto,
-    })
+    Ok(Command::Summary { side, degree, upto })
 }
 
 // The command that the first word names, and what follows it.

@@ -37,11 +37,7 @@ pub(crate) fn reply<S: Source>(
 }
 
 // A command about a grid reads nothing.
-fn answer_to<S: Source>(
-    alloc: Global,
-    command: Command,
-    source: &mut S,
-) -> Result<Answer, Failure>
+fn answer_to<S: Source>(alloc: Global, command: Command, source: &mut S) -> Result<Answer, Failure>
     requires { IsAsked command }
     ensures deserved { (ws : List (List ℕ)) → Asks ws command →
         Replies ws (record { before = S.seen source.old; after = S.seen source.new }) result }
@@ -52,11 +48,7 @@ fn answer_to<S: Source>(
         Command::Check => over_source(alloc, command, source),
         Command::Series { .. } => over_source(alloc, command, source),
         Command::Generate { side } => generate_answer(alloc, side),
-        Command::Summary {
-            side,
-            degree,
-            upto,
-        } => summary_answer(alloc, side, degree, upto),
+        Command::Summary { side, degree, upto } => summary_answer(alloc, side, degree, upto),
     }
 }
 
