@@ -9,13 +9,15 @@ use Rattle.tv_laws_tiled_edges.proofs.Rules.{has_edge_rule}
 use Rattle.tv_laws_tiled_edges.proofs.Turned.{tiled-turned}
 use Rattle.tv_laws_signs.proofs.Signs.{configuration_has_sign, counted_sign}
 use Rattle.tv_laws_signs.proofs.PartialSigns.{partial_has_sign}
+use Rattle.tv_spec_json.specs.Files.{is_json}
 use Rattle.tv_top.specs.Acceptance.{turned_web}
+use Rattle.tv_top.proofs.Reading.{within_limits}
 use Rattle.tv_top.specs.Laws.{AcceptedHasEdgeRule, AcceptedConfigurationSign, AcceptedPartialSign, AcceptedNoneCancels, AcceptedSizeIsNumber}
 
 pub accepted_rule : AcceptedHasEdgeRule
 accepted_rule bytes w accepted =
     let file = accepted.file in
-    subst HasEdgeRule (sym accepted.sound.turned) (has_edge_rule (turned_web file) accepted.text.2.coordinates (tiled-turned file.points file.triangles accepted.sound.tiled))
+    subst HasEdgeRule (sym accepted.sound.turned) (has_edge_rule (turned_web file) (within_limits (is_json bytes) bytes file accepted.read).coordinates (tiled-turned file.points file.triangles accepted.sound.tiled))
 
 pub accepted_sign : AcceptedConfigurationSign
 accepted_sign bytes w fixed c accepted = configuration_has_sign w fixed c (accepted_rule bytes w accepted)

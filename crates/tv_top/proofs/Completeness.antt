@@ -3,15 +3,11 @@ use Rattle.std.proofs.Common.{◌≡◌, ◌⊎◌, inl, inr, ℕ, ◌≤◌, �
 use Rattle.std.specs.Io.KnownBytes.{Consumes, IsAtEnd}
 use Rattle.std.proofs.lemmas.Int.{ints}
 use Rattle.tv_spec_plane.specs.Web.{Web}
-use Rattle.tv_spec_text.specs.Lines.{Word, Line as TextLine, word_lines, spelled}
+use Rattle.tv_spec_text.specs.Lines.{Word, Line as TextLine}
 use Rattle.tv_spec_text.specs.Places.{IsPlace}
 use Rattle.tv_spec_text.proofs.Places.{IsPlace-none}
-use Rattle.tv_spec_text.proofs.Readings.{Spells-unique, spelled_injective}
 use Rattle.tv_spec_json.specs.Files.{is_json}
-use Rattle.tv_json.proofs.Exact.{IsFileJson-unique, IsJson-accepted}
-use Rattle.tv_text.proofs.Exact.{IsText-accepted}
 use Rattle.tv_text.specs.declared.file.TheConstants.{MOST_BYTES}
-use Rattle.tv_lattice.specs.declared.fault.InputError.TheVariants.{Fault}
 use Rattle.tv_lattice.specs.declared.fault.FileFault.{FileFault}
 use Rattle.tv_lattice.specs.declared.fault.FileFault.TheVariants.{TooLong, Line, Json, TooMany, Repeated, Index, Flat, Area, Twice, Unmatched, Bare, HeightCount, Degree}
 use Rattle.tv_lattice.specs.Limits.{IsWithinLimits}
@@ -23,9 +19,9 @@ use Rattle.tv_text.specs.declared.series.Kind.{Kind}
 use Rattle.tv_text.specs.declared.series.Kind.TheVariants.{Full, Reduced}
 use Rattle.tv_text.specs.Sections.{kind_word}
 use Rattle.tv_top.specs.Commands.{IsSide, IsDegree, IsOrder, IsSeries, IsGenerate, IsSummaryOf, IsCommand, Asks, side_of}
-use Rattle.tv_top.specs.Acceptance.{turned_web, ReadsAs, IsAccepted, IsUnsoundBy}
+use Rattle.tv_top.specs.Acceptance.{turned_web, IsAccepted, IsUnsoundBy}
 use Rattle.tv_top.specs.Reports.{IsWide}
-use Rattle.tv_top.specs.Rejections.{RefusedAs, FaultOf, IsWebFault}
+use Rattle.tv_top.specs.Rejections.{FaultOf, IsWebFault}
 use Rattle.tv_top.specs.Answers.{Change, Gave, IsOver, IsOn, Deserves, DeservesFile, Told, Answers}
 use Rattle.tv_top.specs.Completeness.{Completes, IsGiven, IsTooWide}
 use Rattle.tv_top.specs.declared.command.TheConstants.{MIN_SIDE, MAX_SIDE, MAX_DEGREE, MIN_ORDER, MAX_ORDER}
@@ -33,11 +29,12 @@ use Rattle.tv_top.specs.declared.command.Command.{Command}
 use Rattle.tv_top.specs.declared.command.Command.TheVariants.{Check, Series, Generate, Summary}
 use Rattle.tv_top.specs.declared.status.Status.{Status}
 use Rattle.tv_top.specs.declared.status.Status.TheVariants.{Done, Words, File, Wide, Differs, Memory, ReadFault, WriteFault}
+use Rattle.tv_top.proofs.Reading.{one_file, within_limits, few_bytes, read_or_refused}
 use Rattle.tv_top.proofs.SameCommand.{same_command}
 use Rattle.tv_top.proofs.Sound.{graded_or_low}
 
 -- a file that is accepted fails no check
-sound_or_unsound : (w : Web) (f : FileFault) → IsWithinLimits w → IsTiled w.points w.triangles → length w.heights ≡ length w.points → IsGraded (turned_web w) → IsUnsoundBy w f → ⊥
+pub sound_or_unsound : (w : Web) (f : FileFault) → IsWithinLimits w → IsTiled w.points w.triangles → length w.heights ≡ length w.points → IsGraded (turned_web w) → IsUnsoundBy w f → ⊥
 sound_or_unsound w (HeightCount k) l t h g x = x.2 (x.1 ∙ h)
 sound_or_unsound w (Degree a b d) l t h g x = graded_or_low (turned_web w) x.2.0 a b d g x.2.1
 sound_or_unsound w TooLong l t h g x = tiling_triangles_pass w.points w.triangles TooLong l.coordinates t x
@@ -51,24 +48,6 @@ sound_or_unsound w (Area k d) l t h g x = tiling_triangles_pass w.points w.trian
 sound_or_unsound w (Twice i j) l t h g x = tiling_triangles_pass w.points w.triangles (Twice i j) l.coordinates t x
 sound_or_unsound w (Unmatched a b) l t h g x = tiling_triangles_pass w.points w.triangles (Unmatched a b) l.coordinates t x
 sound_or_unsound w (Bare a b) l t h g x = tiling_triangles_pass w.points w.triangles (Bare a b) l.coordinates t x
-
--- a reading gives one file, within the limits, and refuses no file
-
-one_file : (json : Bool) (bytes : List ℕ) (v w : Web) → ReadsAs json bytes v → ReadsAs json bytes w → v ≡ w
-one_file true bytes v w p q = IsFileJson-unique bytes v w p.1 q.1
-one_file false bytes v w p q = Spells-unique (word_lines bytes) v w p.1 q.1
-
-within_limits : (json : Bool) (bytes : List ℕ) (w : Web) → ReadsAs json bytes w → IsWithinLimits w
-within_limits true bytes w h = h.2
-within_limits false bytes w h = h.2
-
-few_bytes : (json : Bool) (bytes : List ℕ) (w : Web) → ReadsAs json bytes w → length bytes ≤ MOST_BYTES
-few_bytes true bytes w h = h.0
-few_bytes false bytes w h = h.0
-
-read_or_refused : (json : Bool) (bytes : List ℕ) (w : Web) (f : FileFault) → ReadsAs json bytes w → RefusedAs json bytes (Fault f) → ⊥
-read_or_refused true bytes w f p q = IsJson-accepted bytes w f p q
-read_or_refused false bytes w f p q = IsText-accepted bytes w f p q
 
 web_or_fault : (bytes : List ℕ) (w : Web) (f : FileFault) → IsAccepted bytes w → IsWebFault bytes f → ⊥
 web_or_fault bytes w f a x = let same : x.web ≡ a.file = one_file (is_json bytes) bytes x.web a.file x.read a.read in

@@ -6,7 +6,9 @@ pub mod FullReport
 pub mod ReducedReport
 pub mod WideNumbers
 pub mod SummaryReport
+pub mod Reading
 pub mod RejectedReply
 pub mod Completeness
+pub mod GridWebs
 pub mod Sound
 pub mod AcceptedSigns

@@ -1,5 +1,6 @@
 -- What the checks of triangles, heights and degrees leave of a file and its web.
-use Rattle.std.proofs.Common.{◌≡◌, ◌≢◌, ℕ, ◌<◌, ℤ, pos, ◌<ℤ◌, ◌≤ℤ◌, List, length, Bool, true, false, ⊤, Result, Ok, Err, MatchResult, ap, sym, ◌∙◌, arith, subst}
+use Rattle.std.proofs.Common.{◌≡◌, ◌≢◌, ℕ, ◌<◌, ℤ, pos, ◌<ℤ◌, ◌≤ℤ◌, List, length, Bool, true, false, Result, Ok, Err, MatchResult, ap, sym, ◌∙◌, arith, subst}
+use Rattle.std.specs.Prelude.{⊤}
 use Rattle.std.proofs.lemmas.Int.{ints}
 use Rattle.tv_spec_plane.specs.Web.{Web, compact, edge_degree, no_edge}
 use Rattle.tv_lemmas.proofs.Members.{all-at}

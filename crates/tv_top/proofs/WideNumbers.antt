@@ -17,9 +17,10 @@ use Rattle.tv_laws_counts.proofs.Crowds.{crowd_is}
 use Rattle.tv_reduced.specs.Faults.{IsSpreadOut as IsWideSpread}
 use Rattle.tv_text.specs.declared.series.Kind.TheVariants.{Full, Reduced}
 use Rattle.tv_text.specs.Refusals.{crowd_line, spread_line}
+use Rattle.tv_spec_reports.specs.Grids.{grid}
 use Rattle.tv_top.specs.SeriesReport.{IsCrowded, IsSpreadOut}
 use Rattle.tv_top.specs.Replies.{CarriesOut, IsCarriedOut, Says}
-use Rattle.tv_top.specs.declared.command.Command.TheVariants.{Series}
+use Rattle.tv_top.specs.declared.command.Command.TheVariants.{Series, Summary}
 use Rattle.tv_top.specs.declared.answer.Answer.{Answer}
 use Rattle.tv_top.specs.declared.answer.Failure.{Failure}
 use Rattle.tv_top.specs.declared.status.Status.TheVariants.{Wide}
@@ -58,6 +59,10 @@ crowd_told w d n v (Err e) crowd h = h
 pub reduced_crowd_told : (w : Web) (d : ℕ) (n : ℤ) (v : List ℤ) (r : Result Answer Failure) → IsCrowded w d n v → Says r Wide (crowd_line v) → IsCarriedOut (Series Reduced d n) w r
 reduced_crowd_told w d n v (Ok a) crowd h = subst (λ s. CarriesOut (Series Reduced d n) w s a.text.items) (sym h.0) (crowd_line v, inl (v, crowd, refl), h.1)
 reduced_crowd_told w d n v (Err e) crowd h = h
+
+pub summary_crowd_told : (k d : ℕ) (n : ℤ) (v : List ℤ) (r : Result Answer Failure) → IsCrowded (grid k) d n v → Says r Wide (crowd_line v) → IsCarriedOut (Summary k d n) (grid k) r
+summary_crowd_told k d n v (Ok a) crowd h = subst (λ s. CarriesOut (Summary k d n) (grid k) s a.text.items) (sym h.0) (crowd_line v, (v, crowd, refl), h.1)
+summary_crowd_told k d n v (Err e) crowd h = h
 
 -- ---- spreads
 

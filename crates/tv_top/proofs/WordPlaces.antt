@@ -31,7 +31,7 @@ behind L (w ∷ front) xs b g = further L w (front ++ xs) (length front) (behind
 
 -- some numbers that words may ask for
 
-nought : Word
+abbrev nought : Word
 nought = spelled (pos 0)
 
 zero_degree : IsDegree 0
@@ -78,14 +78,14 @@ same_name SummaryName CheckName e = absurd (let lengths = ap length e in omega a
 same_name SummaryName SeriesName e = absurd (let lengths = ap length e in omega arith)
 same_name SummaryName GenerateName e = absurd (let lengths = ap length e in omega arith)
 
-pub name_of : Command → Name
+abbrev pub name_of : Command → Name
 name_of Check = CheckName
 name_of (Series kind d n) = SeriesName
 name_of (Generate k) = GenerateName
 name_of (Summary k d n) = SummaryName
 
 -- what follows the name
-pub rest_of : Command → List Word
+abbrev pub rest_of : Command → List Word
 rest_of Check = []
 rest_of (Series kind d n) = kind_word kind ∷ spelled (pos d) ∷ spelled n ∷ []
 rest_of (Generate k) = spelled (pos k) ∷ []

@@ -2,6 +2,7 @@
 --
 -- AcceptedIsNotRefused      == bytes that are accepted have no fault: acceptance and refusal exclude each other
 -- AcceptedAsOneWeb          == bytes are accepted as one web at most
+-- GridIsAccepted            == the file of a grid is accepted, with the grid as its web
 -- AcceptedHasEdgeRule       == every compact edge has its rule
 -- AcceptedConfigurationSign == the sign of a configuration is that of its class and Euler characteristic, whatever diagrams
 --                              stand on the open edges
@@ -17,6 +18,8 @@ use Rattle.tv_spec_boxes.specs.Configurations.{Configuration, configurations, ch
 use Rattle.tv_spec_series.specs.Reduced.{full_coefficient}
 use Rattle.tv_laws_edges.specs.Rule.{HasEdgeRule}
 use Rattle.tv_spec_partial.specs.Partial.{partial_chi, partial_sign}
+use Rattle.tv_spec_reports.specs.Grids.{grid, grid_text}
+use Rattle.tv_top.specs.Commands.{IsSide}
 use Rattle.tv_top.specs.Acceptance.{IsAccepted}
 use Rattle.tv_top.specs.Rejections.{FaultOf}
 
@@ -25,6 +28,9 @@ AcceptedIsNotRefused = (bytes : List ℕ) (w : Web) (f : FileFault) → IsAccept
 
 abbrev pub AcceptedAsOneWeb : Type 0
 AcceptedAsOneWeb = (bytes : List ℕ) (v w : Web) → IsAccepted bytes v → IsAccepted bytes w → v ≡ w
+
+abbrev pub GridIsAccepted : Type 0
+GridIsAccepted = (side : ℕ) → IsSide side → IsAccepted (grid_text side) (grid side)
 
 abbrev pub AcceptedHasEdgeRule : Type 0
 AcceptedHasEdgeRule = (bytes : List ℕ) (w : Web) → IsAccepted bytes w → HasEdgeRule w

@@ -16,6 +16,7 @@ use tv_glue::{GlueFault, full};
 use tv_graded::Graded;
 use tv_grids::grid::generate;
 use tv_grids::print::print_file;
+use tv_lattice::fault::InputError;
 use tv_reports::series::sections_of;
 use tv_reports::summary::{print_summary, summarize};
 use tv_ring::Whole;
@@ -56,6 +57,7 @@ pub(crate) fn summary_answer(
     }
 }
 
+// A grid fails no check.
 fn grid_web(alloc: Global, side: u32) -> Result<GradedWeb, Failure>
     requires { IsSide side }
     ensures { MatchResult result (λ w. w ≡ grid side) (λ e. e ≡ Failure.Memory) }
@@ -65,7 +67,8 @@ fn grid_web(alloc: Global, side: u32) -> Result<GradedWeb, Failure>
     };
     match web_of(alloc, file) {
         Ok(web) => Ok(web),
-        Err(_) => Err(Failure::Memory),
+        Err(InputError::Fault(_)) => unreachable!(),
+        Err(InputError::Memory) => Err(Failure::Memory),
     }
 }
 

@@ -1,7 +1,7 @@
 //! Laws of accepted files: each function does nothing, and its contract is true of every file that the program takes, and of
 //! its web.
 
-ghost use Rattle.tv_top.specs.Laws.{AcceptedIsNotRefused, AcceptedAsOneWeb, AcceptedHasEdgeRule, AcceptedConfigurationSign, AcceptedPartialSign, AcceptedNoneCancels, AcceptedSizeIsNumber};
+ghost use Rattle.tv_top.specs.Laws.{GridIsAccepted, AcceptedIsNotRefused, AcceptedAsOneWeb, AcceptedHasEdgeRule, AcceptedConfigurationSign, AcceptedPartialSign, AcceptedNoneCancels, AcceptedSizeIsNumber};
 
 /// No bytes are both accepted and refused.
 pub fn accepted_file_is_not_refused()
@@ -11,6 +11,11 @@ pub fn accepted_file_is_not_refused()
 /// Bytes are accepted as one web at most.
 pub fn accepted_file_has_one_web()
     ensures { AcceptedAsOneWeb }
+{}
+
+/// The file of a grid is accepted, with the grid as its web.
+pub fn grid_is_accepted()
+    ensures { GridIsAccepted }
 {}
 
 /// The two triangles of each compact edge are unimodular and lie on its two sides.

@@ -8,7 +8,7 @@ pub returns-in-Err-TooLong-clause-deserved : goal.returns-in-Err-TooLong-clause-
 returns-in-Err-TooLong-clause-deserved g c = λ ws q.
     let takes = c.in-Err-TooLong.ensures in
     let outcome = rw c.in-Err-TooLong.field-0-is at takes.outcome in
-    too_long_reply ws _ c.args.command takes.bytes _ q takes.taken outcome.1 outcome.0 c.reject.ensures
+    too_long_reply ws _ c.args.command takes.bytes _ q c.requires.file takes.taken outcome.1 outcome.0 c.reject.ensures
 
 pub returns-in-Err-TooLong-clause-reads : goal.returns-in-Err-TooLong-clause-reads
 returns-in-Err-TooLong-clause-reads g c = λ ws q.
@@ -16,7 +16,7 @@ returns-in-Err-TooLong-clause-reads g c = λ ws q.
     let outcome = rw c.in-Err-TooLong.field-0-is at takes.outcome in
     let count = outcome.0 in
     let within : length takes.bytes ≤ MOST_BYTES + 1 = omega arith in
-    command_reads ws _ c.args.command takes.bytes q takes.taken within takes.calls takes.later
+    command_reads ws _ c.args.command takes.bytes q c.requires.file takes.taken within takes.calls takes.later
 
 pub returns-in-Err-Fault-clause-reads : goal.returns-in-Err-Fault-clause-reads
 returns-in-Err-Fault-clause-reads g c = λ ws q.
@@ -24,7 +24,7 @@ returns-in-Err-Fault-clause-reads g c = λ ws q.
     let outcome = rw c.in-Err-Fault.field-0-is at takes.outcome in
     let count = outcome.0 in
     let within : length takes.bytes ≤ MOST_BYTES + 1 = omega arith in
-    command_reads ws _ c.args.command takes.bytes q takes.taken within takes.calls takes.later
+    command_reads ws _ c.args.command takes.bytes q c.requires.file takes.taken within takes.calls takes.later
 
 pub returns-in-Err-Memory-clause-reads : goal.returns-in-Err-Memory-clause-reads
 returns-in-Err-Memory-clause-reads g c = λ ws q.
@@ -32,7 +32,7 @@ returns-in-Err-Memory-clause-reads g c = λ ws q.
     let outcome = rw c.in-Err-Memory.field-0-is at takes.outcome in
     let count = outcome.0 in
     let within : length takes.bytes ≤ MOST_BYTES + 1 = omega arith in
-    command_reads ws _ c.args.command takes.bytes q takes.taken within takes.calls takes.later
+    command_reads ws _ c.args.command takes.bytes q c.requires.file takes.taken within takes.calls takes.later
 
 pub returns-in-Ok-clause-deserved : goal.returns-in-Ok-clause-deserved
 returns-in-Ok-clause-deserved g c = λ ws q.
@@ -40,11 +40,11 @@ returns-in-Ok-clause-deserved g c = λ ws q.
     let whole = takes.outcome in
     let judged = c.judge.ensures in
     let bytes : c.deref.result.now ≡ takes.bytes = c.deref.ensures.value ∙ whole.same in
-    judged_reply ws _ c.args.command takes.bytes _ q (record { taken = takes.taken; ended = whole.ended; kept = whole.kept }) whole.within (subst (λ (bs : List ℕ). IsJudged c.args.command bs c.judge.result) bytes judged)
+    judged_reply ws _ c.args.command takes.bytes _ q c.requires.file (record { taken = takes.taken; ended = whole.ended; kept = whole.kept }) whole.within (subst (λ (bs : List ℕ). IsJudged c.args.command bs c.judge.result) bytes judged)
 
 pub returns-in-Ok-clause-reads : goal.returns-in-Ok-clause-reads
 returns-in-Ok-clause-reads g c = λ ws q.
     let takes = c.in-Ok.ensures in
     let count = takes.outcome.within in
     let within : length takes.bytes ≤ MOST_BYTES + 1 = omega arith in
-    command_reads ws _ c.args.command takes.bytes q takes.taken within takes.calls takes.later
+    command_reads ws _ c.args.command takes.bytes q c.requires.file takes.taken within takes.calls takes.later
