@@ -19,11 +19,11 @@ use Rattle.tv_text.specs.declared.series.Kind.{Kind}
 use Rattle.tv_text.specs.declared.series.Kind.TheVariants.{Full, Reduced}
 use Rattle.tv_text.specs.Sections.{kind_word}
 use Rattle.tv_top.specs.Commands.{IsSide, IsDegree, IsOrder, IsSeries, IsGenerate, IsSummaryOf, IsCommand, Asks, side_of}
-use Rattle.tv_top.specs.Acceptance.{turned_web, IsAccepted, IsUnsoundBy}
+use Rattle.tv_top.specs.Acceptance.{turned_web, IsFile, IsAccepted, IsUnsoundBy}
 use Rattle.tv_top.specs.Reports.{IsWide}
-use Rattle.tv_top.specs.Rejections.{FaultOf, IsWebFault}
+use Rattle.tv_top.specs.Rejections.{FaultOf}
 use Rattle.tv_top.specs.Answers.{Change, Gave, IsOver, IsOn, Deserves, DeservesFile, Told, Answers}
-use Rattle.tv_top.specs.Completeness.{Completes, IsGiven, IsTooWide}
+use Rattle.tv_top.specs.Completeness.{Completes, IsGiven}
 use Rattle.tv_top.specs.declared.command.TheConstants.{MIN_SIDE, MAX_SIDE, MAX_DEGREE, MIN_ORDER, MAX_ORDER}
 use Rattle.tv_top.specs.declared.command.Command.{Command}
 use Rattle.tv_top.specs.declared.command.Command.TheVariants.{Check, Series, Generate, Summary}
@@ -49,9 +49,9 @@ sound_or_unsound w (Twice i j) l t h g x = tiling_triangles_pass w.points w.tria
 sound_or_unsound w (Unmatched a b) l t h g x = tiling_triangles_pass w.points w.triangles (Unmatched a b) l.coordinates t x
 sound_or_unsound w (Bare a b) l t h g x = tiling_triangles_pass w.points w.triangles (Bare a b) l.coordinates t x
 
-web_or_fault : (bytes : List ℕ) (w : Web) (f : FileFault) → IsAccepted bytes w → IsWebFault bytes f → ⊥
-web_or_fault bytes w f a x = let same : x.web ≡ a.file = one_file (is_json bytes) bytes x.web a.file x.read a.read in
-    sound_or_unsound a.file f (within_limits (is_json bytes) bytes a.file a.read) a.sound.tiled a.sound.heights (subst IsGraded a.sound.turned a.sound.graded) (subst (λ v. IsUnsoundBy v f) same x.unsound)
+web_or_fault : (bytes : List ℕ) (w : Web) (f : FileFault) → IsAccepted bytes w → (v : Web) × IsFile bytes v × IsUnsoundBy v f → ⊥
+web_or_fault bytes w f a x = let same : x.0 ≡ a.file = one_file (is_json bytes) bytes x.0 a.file x.1 a.read in
+    sound_or_unsound a.file f (within_limits (is_json bytes) bytes a.file a.read) a.sound.tiled a.sound.heights (subst IsGraded a.sound.turned a.sound.graded) (subst (λ v. IsUnsoundBy v f) same x.2)
 
 -- what is taken isn't refused
 pub accepted_or_fault : (bytes : List ℕ) (w : Web) (f : FileFault) → IsAccepted bytes w → FaultOf bytes f → ⊥
@@ -98,7 +98,7 @@ refused_or_accepted ws io text told w e a d = elim d.ended [
   | inr whole ↦ accepted_or_fault d.bytes w d.fault (subst (λ bytes. IsAccepted bytes w) (all_of_told io.before.bytes io.after.bytes told d.bytes e d.taken whole.1) a) d.refused
 ]
 
-wide_along : (c d : Command) (v w : Web) (line : TextLine) → d ≡ c → v ≡ w → IsWide d v line → IsTooWide c w
+wide_along : (c d : Command) (v w : Web) (line : TextLine) → d ≡ c → v ≡ w → IsWide d v line → (l : TextLine) × IsWide c w l
 wide_along c d v w line p q h = (line, subst (λ k. IsWide k w line) p (subst (λ u. IsWide d u line) q h))
 
 -- a command is about one web
@@ -121,7 +121,7 @@ given_or_file ws io text (Some k) w given file d = none_or_some k (Some k) refl 
 
 -- what the deserved statuses are
 by_accepted : (ws : List Word) (io : Change) (c : Command) (w : Web) → Asks ws c → IsGiven (side_of c) io w → (Rose io.before.faults io.after.faults → ⊥)
-    → (s : Status) (text : List ℕ) → Deserves ws io s text → (s ≡ Done) ⊎ (((s ≡ Wide) × IsTooWide c w) ⊎ (s ≡ Memory))
+    → (s : Status) (text : List ℕ) → Deserves ws io s text → (s ≡ Done) ⊎ (((s ≡ Wide) × ((l : TextLine) × IsWide c w l)) ⊎ (s ≡ Memory))
 by_accepted ws io c w q a n Done text d = inl refl
 by_accepted ws io c w q a n Words text d = absurd (IsPlace-none IsCommand ws d.place (c, q) d.outside)
 by_accepted ws io c w q a n File text d =

@@ -14,7 +14,7 @@ use Rattle.tv_spec_series.specs.Full.{IsFull, IsFullRow}
 use Rattle.tv_text.specs.declared.series.Kind.TheVariants.{Full}
 use Rattle.tv_reports.specs.Sections.{IsSmall, section_of, sections_of, TellsRow}
 use Rattle.tv_reports.proofs.Sections.{sections_tell}
-use Rattle.tv_top.specs.SeriesReport.{IsFullSection, IsFullReport}
+use Rattle.tv_top.specs.SeriesReport.{IsFullSection, IsSeriesReport}
 use Rattle.tv_top.specs.Replies.{IsPrinted, Prints, CarriesOut, IsCarriedOut}
 use Rattle.tv_top.specs.declared.command.Command.TheVariants.{Series}
 use Rattle.tv_top.specs.declared.answer.Answer.{Answer}
@@ -36,7 +36,7 @@ full_sections w d n f (row ∷ rows) hs u full tells small =
       full_sections w d n f rows hs u full.1 tells.1 small.1,
     )
 
-pub full_report : (w : Web) (d : ℕ) (n : ℤ) (f : Family ℤ) (text : List ℕ) → IsFull wholes w (no_legs w) d n f → IsPrinted Full f text → IsFullReport w d n text
+pub full_report : (w : Web) (d : ℕ) (n : ℤ) (f : Family ℤ) (text : List ℕ) → IsFull wholes w (no_legs w) d n f → IsPrinted Full f text → IsSeriesReport Full w d n text
 full_report w d n f text full printed = record {
   sections = sections_of f;
   classes = subst (AreClasses w d) (sym (entries_of f.heights f.rows)) full.classes;

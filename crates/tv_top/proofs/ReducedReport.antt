@@ -13,7 +13,7 @@ use Rattle.tv_spec_series.specs.ReducedFamilies.{IsReducedFamily, IsReducedRow}
 use Rattle.tv_text.specs.declared.series.Kind.TheVariants.{Reduced}
 use Rattle.tv_reports.specs.Sections.{IsSmall, section_of, sections_of, TellsRow}
 use Rattle.tv_reports.proofs.Sections.{sections_tell}
-use Rattle.tv_top.specs.SeriesReport.{IsReducedSection, IsReducedReport}
+use Rattle.tv_top.specs.SeriesReport.{IsReducedSection, IsSeriesReport}
 use Rattle.tv_top.specs.Replies.{IsPrinted, Prints, CarriesOut, IsCarriedOut}
 use Rattle.tv_top.specs.declared.command.Command.TheVariants.{Series}
 use Rattle.tv_top.specs.declared.answer.Answer.{Answer}
@@ -38,7 +38,7 @@ reduced_sections w d n f (row ∷ rows) hs u reduced tells small =
       reduced_sections w d n f rows hs u reduced.1 tells.1 small.1,
     )
 
-pub reduced_report : (w : Web) (d : ℕ) (n : ℤ) (f : Family ℤ) (text : List ℕ) → IsReducedFamily wholes w (no_legs w) d n f → IsPrinted Reduced f text → IsReducedReport w d n text
+pub reduced_report : (w : Web) (d : ℕ) (n : ℤ) (f : Family ℤ) (text : List ℕ) → IsReducedFamily wholes w (no_legs w) d n f → IsPrinted Reduced f text → IsSeriesReport Reduced w d n text
 reduced_report w d n f text reduced printed = record {
   sections = sections_of f;
   classes = subst (AreClasses w d) (sym (entries_of f.heights f.rows)) reduced.classes;

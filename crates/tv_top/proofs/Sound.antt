@@ -147,15 +147,15 @@ accepted_or_refused bytes file (Err (Fault TooLong)) t h = absurd h.1
 accepted_or_refused bytes file (Err (Fault (Line n))) t h = absurd h.1
 accepted_or_refused bytes file (Err (Fault Json)) t h = absurd h.1
 accepted_or_refused bytes file (Err (Fault (TooMany e))) t h = absurd h.1
-accepted_or_refused bytes file (Err (Fault (Repeated i j))) t h = record { web = file; read = t; unsound = h }
-accepted_or_refused bytes file (Err (Fault (Index k))) t h = record { web = file; read = t; unsound = h }
-accepted_or_refused bytes file (Err (Fault Flat)) t h = record { web = file; read = t; unsound = h }
-accepted_or_refused bytes file (Err (Fault (Area k d))) t h = record { web = file; read = t; unsound = h }
-accepted_or_refused bytes file (Err (Fault (Twice i j))) t h = record { web = file; read = t; unsound = h }
-accepted_or_refused bytes file (Err (Fault (Unmatched i j))) t h = record { web = file; read = t; unsound = h }
-accepted_or_refused bytes file (Err (Fault (Bare i j))) t h = record { web = file; read = t; unsound = h }
-accepted_or_refused bytes file (Err (Fault (HeightCount k))) t h = record { web = file; read = t; unsound = h }
-accepted_or_refused bytes file (Err (Fault (Degree i j d))) t h = record { web = file; read = t; unsound = h }
+accepted_or_refused bytes file (Err (Fault (Repeated i j))) t h = (file, t, h)
+accepted_or_refused bytes file (Err (Fault (Index k))) t h = (file, t, h)
+accepted_or_refused bytes file (Err (Fault Flat)) t h = (file, t, h)
+accepted_or_refused bytes file (Err (Fault (Area k d))) t h = (file, t, h)
+accepted_or_refused bytes file (Err (Fault (Twice i j))) t h = (file, t, h)
+accepted_or_refused bytes file (Err (Fault (Unmatched i j))) t h = (file, t, h)
+accepted_or_refused bytes file (Err (Fault (Bare i j))) t h = (file, t, h)
+accepted_or_refused bytes file (Err (Fault (HeightCount k))) t h = (file, t, h)
+accepted_or_refused bytes file (Err (Fault (Degree i j d))) t h = (file, t, h)
 
 -- a web whose degrees are positive has no first edge whose degree is not
 pub graded_or_low : (w : Web) (k a b : ℕ) (z : ℤ) → IsGraded w → IsFirstLow w k a b z → ⊥

@@ -7,10 +7,9 @@
 --                        there are as many heights as points, w is the file with its triangles turned, and every compact
 --                        edge of w has a degree of at least 1
 -- IsAccepted bytes w  == the bytes spell a file within the limits, which is sound with the web w
--- HasOtherHeights w k == the triangles tile, and there are k heights, not one for each point
--- HasLowEdge w a b d  == the triangles tile, there is a height for each point, and the first compact edge of the turned
---                        web whose degree is at most 0 is that from a to b, of degree d
--- IsUnsoundBy w f     == f is the first of these checks that fails
+-- IsUnsoundBy w f     == f is the first of these checks that fails: the triangles tile, and there are k heights, not one for each
+--                        point; or there are as many, and the first compact edge of the turned web whose degree is at most 0 is
+--                        that from a to b, of degree d; or points and triangles fail a check
 -- IsUnsound w e       == e is the first of these checks that fails, or want of memory
 -- IsLowEdge w e       == e names the first compact edge of the web whose degree is at most 0, or is want of memory
 use Rattle.std.specs.Prelude.{◌≡◌, ◌≢◌, ℕ, ℤ, List, length, Bool, true, false, ⊤}
@@ -49,17 +48,11 @@ pub record IsAccepted (bytes : List ℕ) (w : Web) : Type 0 where
   pub read : IsFile bytes file
   pub sound : IsSound file w
 
-abbrev pub HasOtherHeights : Web → ℕ → Type 0
-HasOtherHeights w k = IsTiled w.points w.triangles × (k ≡ length w.heights) × (k ≢ length w.points)
-
 -- degrees are looked at last
-abbrev pub HasLowEdge : Web → ℕ → ℕ → ℤ → Type 0
-HasLowEdge w a b d =
-    IsTiled w.points w.triangles × (length w.heights ≡ length w.points) × ((number : ℕ) × IsFirstLow (turned_web w) number a b d)
-
 abbrev pub IsUnsoundBy : Web → FileFault → Type 0
-IsUnsoundBy w (HeightCount k) = HasOtherHeights w k
-IsUnsoundBy w (Degree a b d) = HasLowEdge w a b d
+IsUnsoundBy w (HeightCount k) = IsTiled w.points w.triangles × (k ≡ length w.heights) × (k ≢ length w.points)
+IsUnsoundBy w (Degree a b d) =
+    IsTiled w.points w.triangles × (length w.heights ≡ length w.points) × ((number : ℕ) × IsFirstLow (turned_web w) number a b d)
 IsUnsoundBy w f = IsFirstFault w.points w.triangles f
 
 abbrev pub IsUnsound : Web → InputError → Type 0

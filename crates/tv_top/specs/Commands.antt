@@ -5,7 +5,6 @@
 -- IsOrder z      == a number from MIN_ORDER to MAX_ORDER
 -- IsSide k       == a number from MIN_SIDE to MAX_SIDE
 -- name_word n    == the first word of a command
--- check_words    == the word `check`
 -- series_words k d n == the word `series`, the kind, a degree and an order
 -- generate_words k == the word `generate` and the side of a grid
 -- summary_words k d n == the word `summary`, the side of a grid, a degree and an order
@@ -48,9 +47,6 @@ name_word SeriesName = codes "series"
 name_word GenerateName = codes "generate"
 name_word SummaryName = codes "summary"
 
-abbrev pub check_words : List Word
-check_words = name_word CheckName ∷ []
-
 abbrev pub series_words : Kind → ℕ → ℤ → List Word
 series_words kind degree upto = name_word SeriesName ∷ kind_word kind ∷ spelled (pos degree) ∷ spelled upto ∷ []
 
@@ -76,7 +72,7 @@ pub record IsSummaryOf (ws : List Word) (side degree : ℕ) (upto : ℤ) : Type 
   pub same : ws ≡ summary_words side degree upto
 
 abbrev pub Asks : List Word → Command → Type 0
-Asks ws Check = ws ≡ check_words
+Asks ws Check = ws ≡ name_word CheckName ∷ []
 Asks ws (Series kind degree upto) = IsSeries ws kind degree upto
 Asks ws (Generate side) = IsGenerate ws side
 Asks ws (Summary side degree upto) = IsSummaryOf ws side degree upto

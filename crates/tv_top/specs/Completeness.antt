@@ -7,7 +7,6 @@
 --   words:    words that are no command give Words, or want of memory, whatever the source holds
 -- IsGiven side io w   == w is the web of the accepted file that the source tells, or that of the grid of that side
 -- NothingFails io out == no count of faults rose in the call, and none stood at its last number
--- IsTooWide c w       == a bound of the command's work on the web passes 2^127 - 1
 use Rattle.std.specs.Prelude.{◌≡◌, ◌⊎◌, ℕ, List, Option, Some, None}
 use Rattle.tv_spec_plane.specs.Web.{Web}
 use Rattle.tv_spec_text.specs.Lines.{Word, Line}
@@ -32,12 +31,9 @@ pub record NothingFails (io : Change) (out : Change) : Type 0 where
   pub reads : Rose io.before.faults io.after.faults → ⊥
   pub writes : Rose out.before.faults out.after.faults → ⊥
 
-abbrev pub IsTooWide : Command → Web → Type 0
-IsTooWide c w = (line : Line) × IsWide c w line
-
 pub record Completes (ws : List Word) (io : Change) (out : Change) (result : Status) : Type 0 where
   pub accepted : (c : Command) (w : Web) → Asks ws c → IsGiven (side_of c) io w → NothingFails io out
-      → (result ≡ Done) ⊎ (((result ≡ Wide) × IsTooWide c w) ⊎ (result ≡ Memory))
+      → (result ≡ Done) ⊎ (((result ≡ Wide) × ((line : Line) × IsWide c w line)) ⊎ (result ≡ Memory))
   pub refused : (c : Command) (bytes : List ℕ) (f : FileFault) → Asks ws c → side_of c ≡ None
       → io.before.bytes ≡ Some bytes → FaultOf bytes f → NothingFails io out → (result ≡ File) ⊎ (result ≡ Memory)
   pub words : (k : ℕ) → IsPlace IsCommand ws k → (Rose out.before.faults out.after.faults → ⊥)

@@ -2,8 +2,6 @@
 --
 -- RefusedAs json bytes e == as a file in JSON, or as a text, the bytes are refused by e
 -- IsFileFault bytes e == they are by their first byte
--- IsWebFault bytes f  == f is the first check of points, triangles, heights and degrees that fails, of a file within the
---                        limits
 -- FaultOf bytes f     == f is the first check that the bytes fail: too long, the form and its limits, the web
 -- IsRefused bytes e   == e is the first check that fails, or want of memory
 use Rattle.std.specs.Prelude.{ℕ, ◌<◌, List, length, Bool, true, false, ⊤}
@@ -25,17 +23,12 @@ RefusedAs false bytes e = IsTextFault bytes e
 abbrev pub IsFileFault : List ℕ → InputError → Type 0
 IsFileFault bytes e = RefusedAs (is_json bytes) bytes e
 
-pub record IsWebFault (bytes : List ℕ) (f : FileFault) : Type 0 where
-  pub web : Web
-  pub read : IsFile bytes web
-  pub unsound : IsUnsoundBy web f
-
 abbrev pub FaultOf : List ℕ → FileFault → Type 0
 FaultOf bytes TooLong = MOST_BYTES < length bytes
 FaultOf bytes (Line n) = IsFileFault bytes (Refusal (Line n))
 FaultOf bytes Json = IsFileFault bytes (Refusal Json)
 FaultOf bytes (TooMany e) = IsFileFault bytes (Refusal (TooMany e))
-FaultOf bytes f = IsWebFault bytes f
+FaultOf bytes f = (w : Web) × IsFile bytes w × IsUnsoundBy w f
 
 abbrev pub IsRefused : List ℕ → InputError → Type 0
 IsRefused bytes (Refusal f) = FaultOf bytes f

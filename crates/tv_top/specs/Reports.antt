@@ -1,6 +1,5 @@
 -- What each command answers to the web that it is about: one row for each command.
 --
--- IsSeriesReport k w d n text == the text is the report of the series of that kind
 -- IsCrowdLine w d n line  == the line names a class that has too many configurations
 -- IsSpreadLine w d n line == the line names a class and an exponent at which the numbers that meet in its division are too
 --                            large
@@ -17,13 +16,9 @@ use Rattle.tv_text.specs.declared.series.Kind.TheVariants.{Full, Reduced}
 use Rattle.tv_spec_reports.specs.Grids.{grid_text}
 use Rattle.tv_spec_reports.specs.SummaryReport.{IsSummaryReport}
 use Rattle.tv_text.specs.Refusals.{crowd_line, spread_line}
-use Rattle.tv_top.specs.SeriesReport.{IsFullReport, IsReducedReport, IsCrowded, IsSpreadOut}
+use Rattle.tv_top.specs.SeriesReport.{IsSeriesReport, IsCrowded, IsSpreadOut}
 use Rattle.tv_top.specs.declared.command.Command.{Command}
 use Rattle.tv_top.specs.declared.command.Command.TheVariants.{Check, Series, Generate, Summary}
-
-abbrev pub IsSeriesReport : Kind → Web → ℕ → ℤ → List ℕ → Type 0
-IsSeriesReport Full w degree upto text = IsFullReport w degree upto text
-IsSeriesReport Reduced w degree upto text = IsReducedReport w degree upto text
 
 abbrev pub IsCrowdLine : Web → ℕ → ℤ → Line → Type 0
 IsCrowdLine w degree upto line = (v : List ℤ) × IsCrowded w degree upto v × (line ≡ crowd_line v)

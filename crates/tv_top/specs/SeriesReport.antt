@@ -7,12 +7,13 @@
 --                               product with the full series of class zero is the full series of the class
 -- IsReportOf P title w d upto text == text is the report with that title and a section for each class of w in degree at most
 --                               d, of which P holds
--- IsFullReport w d upto text, IsReducedReport w d upto text == text is the report of that series, through upto
+-- IsSection kind w upto s    == the one or the other, by the kind of series
+-- IsSeriesReport kind w d upto text == text is the report of the series of that kind, through upto
 -- IsCrowded w d upto v       == some assignment of degree at most d has the class v, and its crowd in the full series is
 --                               beyond 2^127 - 1
 -- IsSpreadOut w d upto v m   == some assignment of degree at most d has the class v, and the sizes that meet at m in the
 --                               division of its series add up to more than 2^127 - 1
-use Rattle.std.specs.Prelude.{◌≡◌, ℕ, ℤ, pos, List, map, codes, ◌-◌, ◌^◌, ◌<◌}
+use Rattle.std.specs.Prelude.{◌≡◌, ℕ, ℤ, pos, List, map, ◌-◌, ◌^◌, ◌<◌}
 use Rattle.std.specs.List.{AllByRecursion}
 use Rattle.tv_spec_plane.specs.Web.{Web, degree_of}
 use Rattle.tv_spec_boxes.specs.Assignments.{no_legs}
@@ -21,6 +22,9 @@ use Rattle.tv_spec_boxes.specs.Numbers.{crowd}
 use Rattle.tv_spec_series.specs.Reduced.{full_coefficient, IsReduced, IsSpread}
 use Rattle.tv_spec_text.specs.Lines.{Word}
 use Rattle.tv_spec_text.specs.Reports.{Section, AreTerms, series_text}
+use Rattle.tv_text.specs.declared.series.Kind.{Kind}
+use Rattle.tv_text.specs.declared.series.Kind.TheVariants.{Full, Reduced}
+use Rattle.tv_text.specs.Sections.{kind_word}
 use Rattle.tv_reports.specs.Sections.{IsSmall}
 
 pub record IsFullSection (w : Web) (upto : ℤ) (s : Section) : Type 0 where
@@ -41,11 +45,12 @@ pub record IsReportOf (P : Section → Type 0) (title : Word) (w : Web) (d : ℕ
   pub each : AllByRecursion P sections
   pub printed : text ≡ series_text title w.heights (pos d) upto sections
 
-abbrev pub IsFullReport : Web → ℕ → ℤ → List ℕ → Type 0
-IsFullReport w d upto text = IsReportOf (IsFullSection w upto) (codes "full") w d upto text
+abbrev pub IsSection : Kind → Web → ℤ → Section → Type 0
+IsSection Full w upto s = IsFullSection w upto s
+IsSection Reduced w upto s = IsReducedSection w upto s
 
-abbrev pub IsReducedReport : Web → ℕ → ℤ → List ℕ → Type 0
-IsReducedReport w d upto text = IsReportOf (IsReducedSection w upto) (codes "reduced") w d upto text
+abbrev pub IsSeriesReport : Kind → Web → ℕ → ℤ → List ℕ → Type 0
+IsSeriesReport kind w d upto text = IsReportOf (IsSection kind w upto) (kind_word kind) w d upto text
 
 pub record IsCrowded (w : Web) (d : ℕ) (upto : ℤ) (v : List ℤ) : Type 0 where
   pub class : IsClass w d v
