@@ -173,7 +173,7 @@ told_status out text s r t n = elim t.ends [ inl p ↦ p.0 | inr p ↦ absurd (n
 
 pub completes : (ws : List Word) (io : Change) (out : Change) (r : Status) → Answers ws io out r → Completes ws io out r
 completes ws io out r a = record {
-  accepted = λ c w q given n. let same = told_status out a.text a.status r a.told n.writes in rw same (by_accepted ws io c w q given n.reads a.status a.text a.deserved);
-  refused = λ c told f q file e x n. let same = told_status out a.text a.status r a.told n.writes in rw same (by_refused ws io c told f q file e x n.reads a.status a.text a.deserved);
+  accepted = λ c w q given n. let same = told_status out a.text a.status r a.told n.1 in rw same (by_accepted ws io c w q given n.0 a.status a.text a.deserved);
+  refused = λ c told f q file e x n. let same = told_status out a.text a.status r a.told n.1 in rw same (by_refused ws io c told f q file e x n.0 a.status a.text a.deserved);
   words = λ k p n. let same = told_status out a.text a.status r a.told n in rw same (by_words ws io k p a.status a.text a.deserved);
 }

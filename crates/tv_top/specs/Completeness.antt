@@ -27,9 +27,8 @@ abbrev pub IsGiven : Option ℕ → Change → Web → Type 0
 IsGiven None io w = (bytes : List ℕ) × (io.before.bytes ≡ Some bytes) × IsAccepted bytes w
 IsGiven (Some side) io w = w ≡ grid side
 
-pub record NothingFails (io : Change) (out : Change) : Type 0 where
-  pub reads : Rose io.before.faults io.after.faults → ⊥
-  pub writes : Rose out.before.faults out.after.faults → ⊥
+abbrev pub NothingFails : Change → Change → Type 0
+NothingFails io out = (Rose io.before.faults io.after.faults → ⊥) × (Rose out.before.faults out.after.faults → ⊥)
 
 pub record Completes (ws : List Word) (io : Change) (out : Change) (result : Status) : Type 0 where
   pub accepted : (c : Command) (w : Web) → Asks ws c → IsGiven (side_of c) io w → NothingFails io out
