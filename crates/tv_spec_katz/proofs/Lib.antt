@@ -2,4 +2,5 @@ pub mod Samples
 mod Values
 mod StepValues
 mod IntegerValues
-mod MadeUp
+pub mod MadeUp
+mod RelationValues
