@@ -2,5 +2,5 @@ pub mod Samples
 mod Values
 mod StepValues
 mod IntegerValues
-pub mod MadeUp
+mod MadeUp
 mod RelationValues
