@@ -1,7 +1,10 @@
 -- What the integers of a family of series are, however they are found.
 --
+-- IsPositiveClass hs v  == the class has an entry for each height and a degree of at least 1
+-- IsNormalized N f      == the series of class zero is 1 through N, and every other class of the family is positive, as in a
+--                          family of reduced series
 -- ComesLater hs i j     == the class of i comes after that of j, or it is the same class and i has the lesser genus
--- IsInteger D hs i      == the class has an entry for each height and a degree from 1 to D, and the value is not 0
+-- IsInteger D hs i      == its class is positive and of degree at most D, and its value is not 0
 -- AreOrdered D hs is    == each is such an integer and comes later than all that follow it: the last one is the first of the list,
 --                          and no two have one class and genus
 -- AreIntegers D f is    == the integers of the family to degree D: so ordered, and Katz's product over them and the family have
@@ -10,18 +13,28 @@
 --                          degree at most D through N, and at no lesser exponent of v
 use Rattle.std.specs.Prelude.{◌≡◌, ◌≢◌, ◌⊎◌, ⊤, ℕ, ◌<◌, ℤ, pos, ◌≤ℤ◌, ◌<ℤ◌, List, [], ◌∷◌, length}
 use Rattle.std.specs.List.{AllByRecursion}
+use Rattle.tv_ring.specs.Whole.{wholes}
 use Rattle.tv_spec_plane.specs.Web.{degree_of}
+use Rattle.tv_spec_boxes.specs.Assignments.{zeros}
 use Rattle.tv_spec_boxes.specs.Classes.{IsBefore}
-use Rattle.tv_spec_series.specs.Families.{Family}
+use Rattle.tv_spec_series.specs.Families.{Family, classes, coefficient_of}
 use Rattle.tv_spec_katz.specs.Katz.{Integer}
 use Rattle.tv_spec_katz.specs.Integers.{Agrees, IsCompared, IsMismatch}
+
+pub record IsPositiveClass (hs v : List ℤ) : Type 0 where
+  pub entries : length v ≡ length hs
+  pub degree : pos 0 <ℤ degree_of hs v
+
+pub record IsNormalized (N : ℤ) (f : Family ℤ) : Type 0 where
+  pub unit : coefficient_of wholes f (zeros (length f.heights)) (pos 0) ≡ pos 1
+  pub none : (n : ℤ) → n ≤ℤ N → n ≢ pos 0 → coefficient_of wholes f (zeros (length f.heights)) n ≡ pos 0
+  pub others : AllByRecursion (λ v. (v ≡ zeros (length f.heights)) ⊎ IsPositiveClass f.heights v) (classes f.rows)
 
 abbrev pub ComesLater : List ℤ → Integer → Integer → Type 0
 ComesLater hs i j = IsBefore hs j.class i.class ⊎ ((i.class ≡ j.class) × (i.genus < j.genus))
 
 pub record IsInteger (D : ℕ) (hs : List ℤ) (i : Integer) : Type 0 where
-  pub entries : length i.class ≡ length hs
-  pub positive : pos 0 <ℤ degree_of hs i.class
+  pub positive : IsPositiveClass hs i.class
   pub within : degree_of hs i.class ≤ℤ pos D
   pub value : i.value ≢ pos 0
 
