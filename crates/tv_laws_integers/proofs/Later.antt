@@ -1,14 +1,12 @@
 -- The order of integers: transitive and total, and what it says of the places where they begin.
-use Rattle.std.proofs.Common.{◌≡◌, ◌⊎◌, inl, inr, ℕ, ◌<◌, ◌≤◌, ℤ, pos, ◌-ℤ◌, ◌≤ℤ◌, ◌<ℤ◌, List, [], ◌∷◌, length, refl, sym, ◌∙◌, ap, arith}
+use Rattle.std.proofs.Common.{◌≡◌, ◌⊎◌, inl, inr, ℕ, ℤ, List, [], ◌∷◌, length, sym, ◌∙◌, arith}
 use Rattle.std.proofs.lemmas.Int.{ints}
 use Rattle.std.proofs.lemmas.Bool.{cases_lt}
 use Rattle.std.specs.List.{AllByRecursion}
 use Rattle.tv_lemmas.proofs.Members.{all-onto}
-use Rattle.tv_spec_plane.specs.Web.{degree_of}
-use Rattle.tv_spec_boxes.specs.Classes.{IsBefore}
 use Rattle.tv_spec_series.proofs.Order.{before_trans, before_total}
 use Rattle.tv_spec_katz.specs.Katz.{Integer}
-use Rattle.tv_spec_katz.specs.Relations.{ComesLater, IsInteger, AreOrdered}
+use Rattle.tv_spec_katz.specs.Relations.{ComesLater, AreOrdered}
 use Rattle.tv_laws_katz.specs.Further.{IsPositive, own_exponent, IsEarlier}
 
 pub later_trans : (hs : List ℤ) (i j k : Integer) → ComesLater hs i j → ComesLater hs j k → ComesLater hs i k
@@ -49,4 +47,4 @@ earlier_place hs i k (inr a) = let less = a.1 in inr (sym a.0, omega (arith, int
 
 pub positives : (D : ℕ) (hs : List ℤ) (is : List Integer) → AreOrdered D hs is → AllByRecursion (IsPositive hs) is
 positives D hs [] h = tt
-positives D hs (i ∷ is) h = (let up = h.0.positive in omega (arith, ints), positives D hs is h.1.1)
+positives D hs (i ∷ is) h = (let up = h.0.positive.degree in omega (arith, ints), positives D hs is h.1.1)

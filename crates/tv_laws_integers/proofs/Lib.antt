@@ -1,2 +1,4 @@
 pub mod Later
 pub mod Only
+pub mod Reading
+pub mod Depth

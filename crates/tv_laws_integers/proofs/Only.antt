@@ -1,12 +1,12 @@
 -- Two lists of integers whose products agree at the places where the integers of both begin are the same list.
 --
 -- AgreeAt hs is js k == the products over both lists agree at the place where the integer k begins
-use Rattle.std.proofs.Common.{◌≡◌, ◌≢◌, ◌⊎◌, inl, inr, ℕ, zero, suc, ◌+◌, ◌≤◌, ℤ, pos, ◌+ℤ◌, ◌-ℤ◌, List, [], ◌∷◌, length, refl, sym, ◌∙◌, ap, arith}
+use Rattle.std.proofs.Common.{◌≡◌, inl, inr, ℕ, zero, suc, ◌+◌, ◌≤◌, ℤ, pos, ◌+ℤ◌, ◌-ℤ◌, List, [], ◌∷◌, length, refl, sym, ◌∙◌, ap, arith}
 use Rattle.std.proofs.lemmas.Int.{ints}
 use Rattle.std.specs.List.{AllByRecursion}
 use Rattle.tv_lemmas.proofs.Members.{all-onto, all-both}
 use Rattle.tv_spec_katz.specs.Katz.{Integer, katz}
-use Rattle.tv_spec_katz.specs.Relations.{ComesLater, IsInteger, AreOrdered}
+use Rattle.tv_spec_katz.specs.Relations.{ComesLater, AreOrdered}
 use Rattle.tv_laws_katz.specs.Further.{IsPositive, own_exponent, NewInteger, Unchanged}
 use Rattle.tv_laws_integers.proofs.Later.{later_total, later_all, later_alike, earlier_place, positives}
 
@@ -58,7 +58,7 @@ module _ (new : NewInteger) (unchanged : Unchanged) (hs : List ℤ) (D : ℕ) wh
   only_by zero [] (j ∷ js) few order order' all all' = absurd (omega arith)
   only_by (suc n) (i ∷ is) [] few order order' all all' = absurd (none_later i is [] order tt all all' (only_by n is [] (omega arith) order.1.1 order'))
   only_by (suc n) [] (j ∷ js) few order order' all all' = absurd (none_later j js [] order' tt (turned hs [] (j ∷ js) (j ∷ js) all') (turned hs [] (j ∷ js) [] all) (only_by n js [] (omega arith) order'.1.1 order))
-  only_by (suc n) (i ∷ is) (j ∷ js) few order order' all all' = elim (later_total hs i j (order.0.entries ∙ sym order'.0.entries)) as (λ _. (i ∷ is) ≡ (j ∷ js)) [
+  only_by (suc n) (i ∷ is) (j ∷ js) few order order' all all' = elim (later_total hs i j (order.0.positive.entries ∙ sym order'.0.positive.entries)) as (λ _. (i ∷ is) ≡ (j ∷ js)) [
     | inl later ↦ absurd (none_later i is (j ∷ js) order (later, later_all hs i j js later order'.1.0) all all' (only_by n is (j ∷ js) (omega arith) order.1.1 order'))
     | inr (inl place) ↦
         let up = positives D hs (i ∷ is) order in
