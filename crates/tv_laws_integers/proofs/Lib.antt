@@ -2,3 +2,4 @@ pub mod Later
 pub mod Only
 pub mod Reading
 pub mod Depth
+pub mod ReadClasses
