@@ -3,15 +3,15 @@
 --
 -- AgreesAtMostOne is v == at the class v the product and the family agree at every exponent at most 1
 -- ArePast vs is      == each of the integers comes before all of the classes
--- IsReadOf v is more == `more` is `is` after the class v
--- AreReadOf vs is more == `more` is `is` after the classes
+-- IsReadOf D f v is more == `more` is `is` after the class v
+-- AreReadOf D f vs is more == `more` is `is` after the classes
 use Rattle.std.proofs.Common.{◌≡◌, ◌⊎◌, inl, inr, ℕ, zero, suc, ◌+◌, ◌*◌, ◌<◌, ◌≤◌, max, ℤ, pos, negsuc, neg_ℤ, ◌+ℤ◌, ◌*ℤ◌, ◌-ℤ◌, ◌≤ℤ◌, ◌<ℤ◌, List, [], ◌∷◌, ◌++◌, refl, sym, ◌∙◌, ap, arith, mul_comm}
 use Rattle.std.proofs.lemmas.Int.{ints}
 use Rattle.std.proofs.lemmas.Bool.{cases_lt}
 use Rattle.std.proofs.lemmas.Nat.{mul-le}
 use Rattle.std.specs.List.{AllByRecursion}
 use Rattle.std.specs.Ordering.{int_eq}
-use Rattle.tv_lemmas.proofs.Members.{all-onto}
+use Rattle.tv_lemmas.proofs.Members.{all-onto, all-both}
 use Rattle.tv_ring.specs.Whole.{wholes}
 use Rattle.tv_laws_series.specs.Terms.{natural}
 use Rattle.tv_laws_series.proofs.NormalForm.{bool_cases}
@@ -22,9 +22,10 @@ use Rattle.tv_spec_series.proofs.Order.{rise_tail, first_before}
 use Rattle.tv_spec_katz.specs.Katz.{Integer, katz}
 use Rattle.tv_spec_katz.specs.Integers.{Agrees, genus_depth, series_depth, depth, first_genus, new_integer, with_integer, read_genus, read_down, read_class, read_classes}
 use Rattle.tv_spec_katz.specs.Relations.{AreOrdered}
-use Rattle.tv_laws_katz.specs.Further.{NewInteger, Unchanged}
+use Rattle.tv_laws_katz.specs.Further.{IsPositive, NewInteger, Unchanged}
+use Rattle.tv_laws_katz.specs.Weights.{IsWithinSlope}
+use Rattle.tv_laws_katz.proofs.LargerBound.{vanishes_by_slope}
 use Rattle.tv_laws_integers.specs.Closed.{IsClassTo}
-use Rattle.tv_laws_integers.specs.Premises.{VanishesBelow}
 use Rattle.tv_laws_integers.proofs.Later.{positives}
 use Rattle.tv_laws_integers.proofs.Reading.{IsPast, IsDown, down}
 use Rattle.tv_laws_integers.proofs.Depth.{below_series, genera_within}
@@ -65,36 +66,49 @@ read_append f is (u ∷ us) vs = read_append f (read_class f is u) us vs
 abbrev pub ArePast : List ℤ → List (List ℤ) → List Integer → Type 0
 ArePast hs vs is = AllByRecursion (λ i. AllByRecursion (IsBefore hs i.class) vs) is
 
-positive-natural : (z : ℤ) → pos 0 <ℤ z → z ≡ pos (natural z)
-positive-natural (pos n) h = refl
-positive-natural (negsuc n) h = absurd (omega (arith, ints))
+pub record IsReadOf (D : ℕ) (f : Family ℤ) (v : List ℤ) (is more : List Integer) : Type 0 where
+  pub ordered : AreOrdered D f.heights more
+  pub agrees : AgreesAtMostOne f more v
+  pub same : (u : List ℤ) (n : ℤ) → IsBefore f.heights u v → katz f.heights more u n ≡ katz f.heights is u n
+
+pub record AreReadOf (D : ℕ) (f : Family ℤ) (vs : List (List ℤ)) (is more : List Integer) : Type 0 where
+  pub ordered : AreOrdered D f.heights more
+  pub agrees : AllByRecursion (AgreesAtMostOne f more) vs
+  pub same : (u : List ℤ) (n : ℤ) → AllByRecursion (IsBefore f.heights u) vs → katz f.heights more u n ≡ katz f.heights is u n
+
+natural-is : (z : ℤ) → pos 0 ≤ℤ z → z ≡ pos (natural z)
+natural-is (pos n) h = refl
+natural-is (negsuc n) h = absurd (omega (arith, ints))
 
 one-less : (n : ℤ) → n ≤ℤ pos 1 → pos 1 -ℤ pos (natural (pos 1 -ℤ n)) ≡ n
-one-less n h = let e : pos 1 -ℤ n ≡ pos (natural (pos 1 -ℤ n)) = nonnegative (pos 1 -ℤ n) (omega (arith, ints)) in omega (arith, ints)
-  where
-    nonnegative : (z : ℤ) → pos 0 ≤ℤ z → z ≡ pos (natural z)
-    nonnegative (pos k) h = refl
-    nonnegative (negsuc k) h = absurd (omega (arith, ints))
+one-less n h = let e = natural-is (pos 1 -ℤ n) (omega (arith, ints)) in omega (arith, ints)
 
-module _ (new : NewInteger) (unchanged : Unchanged) (vanishes : VanishesBelow) (D : ℕ) (f : Family ℤ) where
-  pub record IsReadOf (v : List ℤ) (is more : List Integer) : Type 0 where
-    pub ordered : AreOrdered D f.heights more
-    pub agrees : AgreesAtMostOne f more v
-    pub same : (u : List ℤ) (n : ℤ) → IsBefore f.heights u v → katz f.heights more u n ≡ katz f.heights is u n
+-- w is a slope for genera of at most w + 1
+slope-by : (w d : ℕ) → 1 ≤ d → w ≤ w * d
+slope-by w d h = let more : w * 1 ≤ w * d = mul-le w 1 w d (omega arith) h in omega arith
 
+within_slope : (hs : List ℤ) (w : ℕ) (i : Integer) → i.genus ≤ suc w → IsPositive hs i → IsWithinSlope hs w i
+within_slope hs w i h positive =
+    let d = natural (degree_of hs i.class) in
+    let degree = natural-is (degree_of hs i.class) (omega (arith, ints)) in
+    let slope = slope-by w d (omega (arith, ints)) in
+    let product : pos w *ℤ degree_of hs i.class ≡ pos (w * d) = ap (λ z. pos w *ℤ z) degree in
+    record { positive = positive; slope = omega (arith, ints) }
+
+module _ (new : NewInteger) (unchanged : Unchanged) (D : ℕ) (f : Family ℤ) where
   -- below the exponents that are read both are 0
   below_first : (v : List ℤ) (is : List Integer) (n : ℤ) → IsClassTo D f.heights v → AreOrdered D f.heights is → n <ℤ (pos 1 -ℤ pos (first_genus f v is)) → (katz f.heights is v n ≡ pos 0) × (coefficient_of wholes f v n ≡ pos 0)
   below_first v is n class order low =
       let w = depth f v is in
       let d = natural (degree_of f.heights v) in
-      let degree : degree_of f.heights v ≡ pos d = positive-natural (degree_of f.heights v) class.positive.degree in
       let up = class.positive.degree in
+      let degree = natural-is (degree_of f.heights v) (omega (arith, ints)) in
       let product : pos w *ℤ degree_of f.heights v ≡ pos (d * w) = ap (λ z. pos w *ℤ z) degree ∙ ap pos (mul_comm w d) in
-      let once : 1 * w ≤ d * w = mul-le 1 w d w (omega (arith, ints)) (omega arith) in
-      let genera = all-onto (λ i. i.genus ≤ suc (genus_depth is)) (λ i. i.genus ≤ suc w) (λ i h. omega arith) is (genera_within is) in
-      (vanishes f.heights w is v n (positives D f.heights is order) genera (omega (arith, ints)), below_series f v n (omega (arith, ints)))
+      let once : w ≤ d * w = rw (mul_comm d w) (slope-by w d (omega (arith, ints))) in
+      let genera = all-both (λ i. i.genus ≤ suc (genus_depth is)) (IsPositive f.heights) (IsWithinSlope f.heights w) (λ i h k. within_slope f.heights w i (omega arith) k) is (genera_within is) (positives D f.heights is order) in
+      (vanishes_by_slope f.heights w is v n genera (omega (arith, ints)), below_series f v n (omega (arith, ints)))
 
-  pub read_one : (v : List ℤ) (is : List Integer) → IsClassTo D f.heights v → AreOrdered D f.heights is → AllByRecursion (λ i. IsBefore f.heights i.class v) is → IsReadOf v is (read_class f is v)
+  pub read_one : (v : List ℤ) (is : List Integer) → IsClassTo D f.heights v → AreOrdered D f.heights is → AllByRecursion (λ i. IsBefore f.heights i.class v) is → IsReadOf D f v is (read_class f is v)
   read_one v is class order past =
       let g = first_genus f v is in
       let d = down new unchanged D f v g is class order (all-onto (λ i. IsBefore f.heights i.class v) (IsPast f.heights v g) (λ i b. inl b) is past) in
@@ -112,12 +126,7 @@ module _ (new : NewInteger) (unchanged : Unchanged) (vanishes : VanishesBelow) (
 
   -- ---- a list of classes
 
-  pub record AreReadOf (vs : List (List ℤ)) (is more : List Integer) : Type 0 where
-    pub ordered : AreOrdered D f.heights more
-    pub agrees : AllByRecursion (AgreesAtMostOne f more) vs
-    pub same : (u : List ℤ) (n : ℤ) → AllByRecursion (IsBefore f.heights u) vs → katz f.heights more u n ≡ katz f.heights is u n
-
-  pub read_all : (vs : List (List ℤ)) (is : List Integer) → AllByRecursion (IsClassTo D f.heights) vs → ClassesRise f.heights vs → AreOrdered D f.heights is → ArePast f.heights vs is → AreReadOf vs is (read_classes f is vs)
+  pub read_all : (vs : List (List ℤ)) (is : List Integer) → AllByRecursion (IsClassTo D f.heights) vs → ClassesRise f.heights vs → AreOrdered D f.heights is → ArePast f.heights vs is → AreReadOf D f vs is (read_classes f is vs)
   read_all [] is each rises order past = record { ordered = order; agrees = tt; same = λ u n b. refl }
   read_all (v ∷ vs) is each rises order past =
       let first = first_before f.heights v vs rises in

@@ -2,9 +2,9 @@
 -- and stays the same at all earlier places.
 --
 -- IsPast hs v g j == the integer j comes before the class v, or is of that class and of a genus above g
--- IsStep v g is more == `more` is `is` after the genus g of v: the integers so far come before (v, g - 1), the product agrees at 1 - g, and is
+-- IsStep D f v g is more == `more` is `is` after the genus g of v: the integers so far come before (v, g - 1), the product agrees at 1 - g, and is
 --                       the same at the earlier places
--- IsDown v g is more == `more` is `is` after the genera from g to 0 of v
+-- IsDown D f v g is more == `more` is `is` after the genera from g to 0 of v
 use Rattle.std.proofs.Common.{◌≡◌, ◌⊎◌, inl, inr, ℕ, zero, suc, ◌<◌, ◌≤◌, ℤ, pos, ◌-ℤ◌, ◌<ℤ◌, List, ◌∷◌, refl, ◌∙◌, arith}
 use Rattle.std.proofs.lemmas.Int.{ints}
 use Rattle.std.proofs.lemmas.Bool.{cases_lt}
@@ -39,20 +39,20 @@ sooner_below : (hs v : List ℤ) (g : ℕ) (u : List ℤ) (n : ℤ) → IsSooner
 sooner_below hs v g u n (inl a) = inl a
 sooner_below hs v g u n (inr a) = let less = a.1 in inr (a.0, omega (arith, ints))
 
+pub record IsStep (D : ℕ) (f : Family ℤ) (v : List ℤ) (g : ℕ) (is more : List Integer) : Type 0 where
+  pub ordered : AreOrdered D f.heights more
+  pub past : (k : ℕ) → k < g → AllByRecursion (IsPast f.heights v k) more
+  pub agrees : Agrees f more v (pos 1 -ℤ pos g)
+  pub same : (u : List ℤ) (n : ℤ) → IsSooner f.heights v g u n → katz f.heights more u n ≡ katz f.heights is u n
+
+pub record IsDown (D : ℕ) (f : Family ℤ) (v : List ℤ) (g : ℕ) (is more : List Integer) : Type 0 where
+  pub ordered : AreOrdered D f.heights more
+  pub agrees : (k : ℕ) → k ≤ g → Agrees f more v (pos 1 -ℤ pos k)
+  pub same : (u : List ℤ) (n : ℤ) → IsSooner f.heights v g u n → katz f.heights more u n ≡ katz f.heights is u n
+
 module _ (new : NewInteger) (unchanged : Unchanged) (D : ℕ) (f : Family ℤ) where
-  pub record IsStep (v : List ℤ) (g : ℕ) (is more : List Integer) : Type 0 where
-    pub ordered : AreOrdered D f.heights more
-    pub past : (k : ℕ) → k < g → AllByRecursion (IsPast f.heights v k) more
-    pub agrees : Agrees f more v (pos 1 -ℤ pos g)
-    pub same : (u : List ℤ) (n : ℤ) → IsSooner f.heights v g u n → katz f.heights more u n ≡ katz f.heights is u n
-
-  pub record IsDown (v : List ℤ) (g : ℕ) (is more : List Integer) : Type 0 where
-    pub ordered : AreOrdered D f.heights more
-    pub agrees : (k : ℕ) → k ≤ g → Agrees f more v (pos 1 -ℤ pos k)
-    pub same : (u : List ℤ) (n : ℤ) → IsSooner f.heights v g u n → katz f.heights more u n ≡ katz f.heights is u n
-
   -- the integer 0 is left out
-  step_none : (v : List ℤ) (g : ℕ) (is : List Integer) → AreOrdered D f.heights is → AllByRecursion (IsPast f.heights v g) is → new_integer f v g is ≡ pos 0 → IsStep v g is is
+  step_none : (v : List ℤ) (g : ℕ) (is : List Integer) → AreOrdered D f.heights is → AllByRecursion (IsPast f.heights v g) is → new_integer f v g is ≡ pos 0 → IsStep D f v g is is
   step_none v g is order past none = record {
     ordered = order;
     past = λ k h. past_below f.heights v g k (omega arith) is past;
@@ -60,7 +60,7 @@ module _ (new : NewInteger) (unchanged : Unchanged) (D : ℕ) (f : Family ℤ) w
     same = λ u n h. refl;
   }
 
-  step_some : (v : List ℤ) (g : ℕ) (is : List Integer) → IsClassTo D f.heights v → AreOrdered D f.heights is → AllByRecursion (IsPast f.heights v g) is → (new_integer f v g is ≡ pos 0 → ⊥) → IsStep v g is (record { class = v; genus = g; value = new_integer f v g is } ∷ is)
+  step_some : (v : List ℤ) (g : ℕ) (is : List Integer) → IsClassTo D f.heights v → AreOrdered D f.heights is → AllByRecursion (IsPast f.heights v g) is → (new_integer f v g is ≡ pos 0 → ⊥) → IsStep D f v g is (record { class = v; genus = g; value = new_integer f v g is } ∷ is)
   step_some v g is class order past some =
       let i : Integer = record { class = v; genus = g; value = new_integer f v g is } in
       let ordered : AreOrdered D f.heights (i ∷ is) = (record { positive = class.positive; within = class.within; value = some }, (past, order)) in
@@ -72,12 +72,12 @@ module _ (new : NewInteger) (unchanged : Unchanged) (D : ℕ) (f : Family ℤ) w
         same = λ u n h. unchanged f.heights i is u n up h;
       }
 
-  step : (v : List ℤ) (g : ℕ) (is : List Integer) → IsClassTo D f.heights v → AreOrdered D f.heights is → AllByRecursion (IsPast f.heights v g) is → IsStep v g is (read_genus f v g is)
+  step : (v : List ℤ) (g : ℕ) (is : List Integer) → IsClassTo D f.heights v → AreOrdered D f.heights is → AllByRecursion (IsPast f.heights v g) is → IsStep D f v g is (read_genus f v g is)
   step v g is class order past = bool_cases (int_eq (new_integer f v g is) (pos 0))
       (λ b. rw b (step_none v g is order past ((Decides-int_eq (new_integer f v g is) (pos 0)).0 b)))
       (λ b. rw b (step_some v g is class order past (λ e. let t = (Decides-int_eq (new_integer f v g is) (pos 0)).1 e in cc)))
 
-  pub down : (v : List ℤ) (g : ℕ) (is : List Integer) → IsClassTo D f.heights v → AreOrdered D f.heights is → AllByRecursion (IsPast f.heights v g) is → IsDown v g is (read_down f v g is)
+  pub down : (v : List ℤ) (g : ℕ) (is : List Integer) → IsClassTo D f.heights v → AreOrdered D f.heights is → AllByRecursion (IsPast f.heights v g) is → IsDown D f v g is (read_down f v g is)
   down v zero is class order past =
       let s = step v zero is class order past in
       record { ordered = s.ordered; agrees = λ k h. let z : k ≡ 0 = omega arith in rw z s.agrees; same = s.same }
