@@ -3,3 +3,4 @@ pub mod Only
 pub mod Reading
 pub mod Depth
 pub mod ReadClasses
+pub mod Elsewhere

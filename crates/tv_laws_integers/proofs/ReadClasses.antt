@@ -5,7 +5,7 @@
 -- ArePast vs is      == each of the integers comes before all of the classes
 -- IsReadOf D f v is more == `more` is `is` after the class v
 -- AreReadOf D f vs is more == `more` is `is` after the classes
-use Rattle.std.proofs.Common.{◌≡◌, ◌⊎◌, inl, inr, ℕ, zero, suc, ◌+◌, ◌*◌, ◌<◌, ◌≤◌, max, ℤ, pos, negsuc, neg_ℤ, ◌+ℤ◌, ◌*ℤ◌, ◌-ℤ◌, ◌≤ℤ◌, ◌<ℤ◌, List, [], ◌∷◌, ◌++◌, refl, sym, ◌∙◌, ap, arith, mul_comm}
+use Rattle.std.proofs.Common.{◌≡◌, inl, inr, ℕ, zero, suc, ◌*◌, ◌≤◌, ℤ, pos, negsuc, ◌*ℤ◌, ◌-ℤ◌, ◌≤ℤ◌, ◌<ℤ◌, List, [], ◌∷◌, ◌++◌, refl, sym, ◌∙◌, ap, arith, mul_comm}
 use Rattle.std.proofs.lemmas.Int.{ints}
 use Rattle.std.proofs.lemmas.Bool.{cases_lt}
 use Rattle.std.proofs.lemmas.Nat.{mul-le}
@@ -17,17 +17,17 @@ use Rattle.tv_laws_series.specs.Terms.{natural}
 use Rattle.tv_laws_series.proofs.NormalForm.{bool_cases}
 use Rattle.tv_spec_plane.specs.Web.{degree_of}
 use Rattle.tv_spec_boxes.specs.Classes.{IsBefore, ClassesRise}
-use Rattle.tv_spec_series.specs.Families.{Family, coefficient_of, find}
+use Rattle.tv_spec_series.specs.Families.{Family, coefficient_of}
 use Rattle.tv_spec_series.proofs.Order.{rise_tail, first_before}
 use Rattle.tv_spec_katz.specs.Katz.{Integer, katz}
-use Rattle.tv_spec_katz.specs.Integers.{Agrees, genus_depth, series_depth, depth, first_genus, new_integer, with_integer, read_genus, read_down, read_class, read_classes}
+use Rattle.tv_spec_katz.specs.Integers.{Agrees, genus_depth, depth, first_genus, new_integer, with_integer, read_genus, read_down, read_class, read_classes}
 use Rattle.tv_spec_katz.specs.Relations.{AreOrdered}
 use Rattle.tv_laws_katz.specs.Further.{IsPositive, NewInteger, Unchanged}
 use Rattle.tv_laws_katz.specs.Weights.{IsWithinSlope}
 use Rattle.tv_laws_katz.proofs.LargerBound.{vanishes_by_slope}
 use Rattle.tv_laws_integers.specs.Closed.{IsClassTo}
 use Rattle.tv_laws_integers.proofs.Later.{positives}
-use Rattle.tv_laws_integers.proofs.Reading.{IsPast, IsDown, down}
+use Rattle.tv_laws_integers.proofs.Reading.{IsPast, down}
 use Rattle.tv_laws_integers.proofs.Depth.{below_series, genera_within}
 
 abbrev pub AgreesAtMostOne : Family ℤ → List Integer → List ℤ → Type 0
