@@ -1,6 +1,8 @@
 pub mod BelowSums
 pub mod Differences
+pub mod FurtherInteger
 pub mod LargerBound
+pub mod Leading
 pub mod Multiplied
 pub mod Outside
 pub mod Powers

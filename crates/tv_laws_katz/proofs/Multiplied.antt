@@ -2,7 +2,7 @@
 --
 -- mul-mul      a product of three; mul-middle, with the first two exchanged
 -- add-mul      a sum in front; mul-neg, an opposite behind; neg-pull, one in the middle
--- one-mul      1 in front; suc-times, k + 1 in front
+-- one-mul      1 in front; mul-one, 1 behind; suc-times, k + 1 in front
 use Rattle.std.specs.Prelude.{◌≡◌, ℕ, suc, ℤ, pos, ◌+ℤ◌, ◌*ℤ◌, neg_ℤ}
 use Rattle.std.proofs.Common.{ap, arith, ◌∙◌}
 use Rattle.std.proofs.Math.IntN.{one, *ℤ-one}
@@ -34,9 +34,12 @@ neg-pull s x d =
     let r = diff_of s in let t = diff_of x in let u = diff_of d in
     rw (r.2, t.2, u.2) (simp diffs (diff-same _ _ _ _ (omega arith)))
 
-pub one-mul : (z : ℤ) → pos 1 *ℤ z ≡ z
+pub mul-one : (z : ℤ) → z *ℤ pos 1 ≡ z
 unfolding one
-one-mul z = mul-swap (pos 1) z ∙ *ℤ-one z
+mul-one z = *ℤ-one z
+
+pub one-mul : (z : ℤ) → pos 1 *ℤ z ≡ z
+one-mul z = mul-swap (pos 1) z ∙ mul-one z
 
 pub suc-times : (k : ℕ) (z : ℤ) → pos (suc k) *ℤ z ≡ z +ℤ (pos k *ℤ z)
 suc-times k z =

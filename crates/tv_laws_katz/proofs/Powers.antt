@@ -2,7 +2,8 @@
 --
 -- choose-step      (k + 1) C(n, k + 1) + k C(n, k) = n C(n, k); choose-next, (k + 1) C(n + 1, k + 1) = (n + 1) C(n, k)
 -- choose-beyond    C(n, k) = 0 for k above n; choose-whole, C(n, n) = 1; choose-more, C(n, k) grows with n
--- power_sign-next  the sign changes from one power to the next; power_sign-square, its square is 1
+-- power_sign-next  the sign changes from one power to the next; power_sign-square, its square is 1; twice_signed, so that
+--                  twice the sign in front is none; power_sign-same, the sign goes by parity
 -- power_at-zero    the coefficient of X^0 is 1; power_at-one, that of X^1 is minus the exponent
 -- power_at-next    the coefficient of X^(k + 1) by that of X^k
 use Rattle.std.specs.Prelude.{◌≡◌, ◌⊎◌, ℕ, zero, suc, ◌+◌, ◌*◌, ◌%◌, ◌<◌, ℤ, pos, negsuc, ◌-ℤ◌, ◌*ℤ◌, neg_ℤ, Bool, true, false, cond, nat_eq}
@@ -62,7 +63,7 @@ pub power_sign-same : (j k : ℕ) → j % 2 ≡ k % 2 → power_sign j ≡ power
 power_sign-same j k e = ap (λ r. cond (nat_eq r 0) (pos 1) (negsuc 0)) e
 
 -- the product of the two signs in front is 1
-twice_signed : (s z : ℤ) → s *ℤ s ≡ pos 1 → s *ℤ (s *ℤ z) ≡ z
+pub twice_signed : (s z : ℤ) → s *ℤ s ≡ pos 1 → s *ℤ (s *ℤ z) ≡ z
 twice_signed s z e = sym (mul-mul s s z) ∙ rw e (one-mul z)
 
 pub power_at-negsuc : (n k : ℕ) → power_at (negsuc n) k ≡ pos (choose (n + k) k)
