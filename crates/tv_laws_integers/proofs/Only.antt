@@ -7,7 +7,8 @@ use Rattle.std.specs.List.{AllByRecursion}
 use Rattle.tv_lemmas.proofs.Members.{all-onto, all-both}
 use Rattle.tv_spec_katz.specs.Katz.{Integer, katz}
 use Rattle.tv_spec_katz.specs.Relations.{ComesLater, AreOrdered}
-use Rattle.tv_laws_katz.specs.Further.{IsPositive, own_exponent, NewInteger, Unchanged}
+use Rattle.tv_laws_katz.specs.Further.{IsPositive, own_exponent}
+use Rattle.tv_laws_katz.proofs.FurtherInteger.{new_integer, unchanged}
 use Rattle.tv_laws_integers.proofs.Later.{later_total, later_all, later_alike, earlier_place, positives}
 
 abbrev pub AgreeAt : List ℤ → List Integer → List Integer → Integer → Type 0
@@ -22,7 +23,7 @@ same_integer i j c g v = ap (λ x. record { class = x; genus = i.genus; value = 
 moved : (F G : List ℤ → ℤ → ℤ) (z : ℤ) (v w : List ℤ) (m n : ℤ) → v ≡ w → m ≡ n → F w n ≡ G w n +ℤ z → F v m ≡ G v m +ℤ z
 moved F G z v w m n e e' h = rw (e, e') h
 
-module _ (new : NewInteger) (unchanged : Unchanged) (hs : List ℤ) (D : ℕ) where
+module _ (hs : List ℤ) (D : ℕ) where
   -- without an integer the product stays at the earlier places
   without : (i : Integer) (is js ks : List Integer) → AllByRecursion (IsPositive hs) (i ∷ is) → AllByRecursion (ComesLater hs i) ks → AllByRecursion (AgreeAt hs (i ∷ is) js) ks → AllByRecursion (AgreeAt hs is js) ks
   without i is js ks up later all =
@@ -35,14 +36,14 @@ module _ (new : NewInteger) (unchanged : Unchanged) (hs : List ℤ) (D : ℕ) wh
       let up = positives D hs (i ∷ is) order in
       let same : is ≡ js = rest (without i is js is up order.1.0 all.1) (without i is js js up later others) in
       let own : katz hs (i ∷ is) i.class (own_exponent i) ≡ katz hs is i.class (own_exponent i) = all.0 ∙ ap (λ ks. katz hs ks i.class (own_exponent i)) (sym same) in
-      let more = new hs i is up in
+      let more = new_integer hs i is up in
       order.0.value (omega (arith, ints))
 
   -- of two last integers with one place the values are the same
   both_last : (i j : Integer) (is js : List Integer) → AreOrdered D hs (i ∷ is) → AreOrdered D hs (j ∷ js) → i.class ≡ j.class → i.genus ≡ j.genus → is ≡ js → AgreeAt hs (i ∷ is) (j ∷ js) i → i ≡ j
   both_last i j is js order order' c g rest e =
-      let first = new hs i is (positives D hs (i ∷ is) order) in
-      let second = moved (katz hs (j ∷ js)) (katz hs js) j.value i.class j.class (own_exponent i) (own_exponent j) c (ap (λ n. pos 1 -ℤ pos n) g) (new hs j js (positives D hs (j ∷ js) order')) in
+      let first = new_integer hs i is (positives D hs (i ∷ is) order) in
+      let second = moved (katz hs (j ∷ js)) (katz hs js) j.value i.class j.class (own_exponent i) (own_exponent j) c (ap (λ n. pos 1 -ℤ pos n) g) (new_integer hs j js (positives D hs (j ∷ js) order')) in
       let below : katz hs is i.class (own_exponent i) ≡ katz hs js i.class (own_exponent i) = ap (λ ks. katz hs ks i.class (own_exponent i)) rest in
       same_integer i j c g (omega (arith, ints))
 

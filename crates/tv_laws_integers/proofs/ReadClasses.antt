@@ -22,7 +22,7 @@ use Rattle.tv_spec_series.proofs.Order.{rise_tail, first_before}
 use Rattle.tv_spec_katz.specs.Katz.{Integer, katz}
 use Rattle.tv_spec_katz.specs.Integers.{Agrees, genus_depth, depth, first_genus, new_integer, with_integer, read_genus, read_down, read_class, read_classes}
 use Rattle.tv_spec_katz.specs.Relations.{AreOrdered}
-use Rattle.tv_laws_katz.specs.Further.{IsPositive, NewInteger, Unchanged}
+use Rattle.tv_laws_katz.specs.Further.{IsPositive}
 use Rattle.tv_laws_katz.specs.Weights.{IsWithinSlope}
 use Rattle.tv_laws_katz.proofs.LargerBound.{vanishes_by_slope}
 use Rattle.tv_laws_integers.specs.Closed.{IsClassTo}
@@ -95,7 +95,7 @@ within_slope hs w i h positive =
     let product : pos w *ℤ degree_of hs i.class ≡ pos (w * d) = ap (λ z. pos w *ℤ z) degree in
     record { positive = positive; slope = omega (arith, ints) }
 
-module _ (new : NewInteger) (unchanged : Unchanged) (D : ℕ) (f : Family ℤ) where
+module _ (D : ℕ) (f : Family ℤ) where
   -- below the exponents that are read both are 0
   below_first : (v : List ℤ) (is : List Integer) (n : ℤ) → IsClassTo D f.heights v → AreOrdered D f.heights is → n <ℤ (pos 1 -ℤ pos (first_genus f v is)) → (katz f.heights is v n ≡ pos 0) × (coefficient_of wholes f v n ≡ pos 0)
   below_first v is n class order low =
@@ -111,7 +111,7 @@ module _ (new : NewInteger) (unchanged : Unchanged) (D : ℕ) (f : Family ℤ) w
   pub read_one : (v : List ℤ) (is : List Integer) → IsClassTo D f.heights v → AreOrdered D f.heights is → AllByRecursion (λ i. IsBefore f.heights i.class v) is → IsReadOf D f v is (read_class f is v)
   read_one v is class order past =
       let g = first_genus f v is in
-      let d = down new unchanged D f v g is class order (all-onto (λ i. IsBefore f.heights i.class v) (IsPast f.heights v g) (λ i b. inl b) is past) in
+      let d = down D f v g is class order (all-onto (λ i. IsBefore f.heights i.class v) (IsPast f.heights v g) (λ i b. inl b) is past) in
       record {
         ordered = d.ordered;
         agrees = λ n h. elim (cases_lt g (natural (pos 1 -ℤ n))) as (λ _. Agrees f (read_class f is v) v n) [

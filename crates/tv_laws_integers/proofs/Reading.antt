@@ -18,7 +18,7 @@ use Rattle.tv_spec_series.specs.Families.{Family}
 use Rattle.tv_spec_katz.specs.Katz.{Integer, katz}
 use Rattle.tv_spec_katz.specs.Integers.{Agrees, new_integer, read_genus, read_down}
 use Rattle.tv_spec_katz.specs.Relations.{AreOrdered}
-use Rattle.tv_laws_katz.specs.Further.{NewInteger, Unchanged}
+use Rattle.tv_laws_katz.proofs.FurtherInteger.{new_integer as added_value, unchanged}
 use Rattle.tv_laws_integers.specs.Closed.{IsClassTo}
 use Rattle.tv_laws_integers.proofs.Later.{positives}
 
@@ -50,7 +50,7 @@ pub record IsDown (D : ℕ) (f : Family ℤ) (v : List ℤ) (g : ℕ) (is more :
   pub agrees : (k : ℕ) → k ≤ g → Agrees f more v (pos 1 -ℤ pos k)
   pub same : (u : List ℤ) (n : ℤ) → IsSooner f.heights v g u n → katz f.heights more u n ≡ katz f.heights is u n
 
-module _ (new : NewInteger) (unchanged : Unchanged) (D : ℕ) (f : Family ℤ) where
+module _ (D : ℕ) (f : Family ℤ) where
   -- the integer 0 is left out
   step_none : (v : List ℤ) (g : ℕ) (is : List Integer) → AreOrdered D f.heights is → AllByRecursion (IsPast f.heights v g) is → new_integer f v g is ≡ pos 0 → IsStep D f v g is is
   step_none v g is order past none = record {
@@ -68,7 +68,7 @@ module _ (new : NewInteger) (unchanged : Unchanged) (D : ℕ) (f : Family ℤ) w
       record {
         ordered = ordered;
         past = λ k h. (inr (refl, h), past_below f.heights v g k (omega arith) is past);
-        agrees = let sum = new f.heights i is up in omega (arith, ints);
+        agrees = let sum = added_value f.heights i is up in omega (arith, ints);
         same = λ u n h. unchanged f.heights i is u n up h;
       }
 
