@@ -4,3 +4,4 @@ pub mod Reading
 pub mod Depth
 pub mod ReadClasses
 pub mod Elsewhere
+pub mod Existence
