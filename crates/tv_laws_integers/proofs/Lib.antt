@@ -5,3 +5,4 @@ pub mod Depth
 pub mod ReadClasses
 pub mod Elsewhere
 pub mod Existence
+pub mod Mismatches

@@ -1,0 +1,88 @@
+-- Where product and family differ first: it is seen as soon as the classes up to that one are read, and there is one such place at
+-- most.
+use Rattle.std.proofs.Common.{◌≡◌, ◌⊎◌, inl, inr, Contains, ℕ, ℤ, pos, ◌≤ℤ◌, ◌<ℤ◌, List, [], ◌∷◌, ◌++◌, refl, sym, ◌∙◌, ap, arith}
+use Rattle.std.proofs.lemmas.Int.{ints, by_lt_z}
+use Rattle.std.proofs.lemmas.List.Elements.{Contains-append_left, Contains-append_right, Contains-append_cases}
+use Rattle.std.specs.List.{AllByRecursion}
+use Rattle.tv_lemmas.proofs.Members.{all-contains, contains-head, contains-cases}
+use Rattle.tv_spec_boxes.specs.Classes.{IsBefore}
+use Rattle.tv_spec_series.specs.Families.{Family}
+use Rattle.tv_spec_series.proofs.Order.{before_strict, before_trans, before_apart}
+use Rattle.tv_spec_katz.specs.Katz.{Integer}
+use Rattle.tv_spec_katz.specs.Integers.{Agrees, Differs, IsCompared, IsMismatch, read_classes}
+use Rattle.tv_spec_katz.specs.Relations.{AreIntegers, IsNormalized, HasMismatch}
+use Rattle.tv_laws_katz.specs.Weights.{VanishesElsewhere}
+use Rattle.tv_laws_integers.specs.Closed.{IsClassTo, IsClosedList, IsListed}
+use Rattle.tv_laws_integers.proofs.Later.{positives}
+use Rattle.tv_laws_integers.proofs.Elsewhere.{agrees_elsewhere}
+use Rattle.tv_laws_integers.proofs.Existence.{IsBegun, only, before_back, listed_or_not, kept, all_listed, extends}
+
+pub normal_through : (M N : ℤ) (f : Family ℤ) → M ≤ℤ N → IsNormalized N f → IsNormalized M f
+normal_through M N f h normal = record { unit = normal.unit; none = λ n k other. normal.none n (omega (arith, ints)) other; others = normal.others }
+
+-- ---- one place at most
+
+abbrev pub IsFirst : List ℤ → List ℤ → ℤ → List ℤ → ℤ → Type 0
+IsFirst hs v n u m = IsBefore hs v u ⊎ ((u ≡ v) × (n ≤ℤ m))
+
+one_first : (hs v u : List ℤ) (n m : ℤ) → IsFirst hs v n u m → IsFirst hs u m v n → (v ≡ u) × (n ≡ m)
+one_first hs v u n m (inl a) (inl b) = absurd (before_strict hs v (before_trans hs v u v a b))
+one_first hs v u n m (inl a) (inr b) = absurd (before_apart hs v u a b.0)
+one_first hs v u n m (inr a) (inl b) = absurd (before_apart hs u v b a.0)
+one_first hs v u n m (inr a) (inr b) = let less = a.1 in let more = b.1 in (b.0, omega (arith, ints))
+
+pub same_mismatch : (D : ℕ) (N : ℤ) (f : Family ℤ) (is : List Integer) (v u : List ℤ) (n m : ℤ) → IsMismatch D N f is v n → IsMismatch D N f is u m → (v ≡ u) × (n ≡ m)
+same_mismatch D N f is v u n m first second = one_first f.heights v u n m (first.first u m second.compared second.differs) (second.first v n first.compared first.differs)
+
+-- a mismatch of the integers is one of each list that they are
+pub mismatch_of : (D : ℕ) (N : ℤ) (f : Family ℤ) (is : List Integer) (v : List ℤ) (n : ℤ) → AreIntegers D f is → HasMismatch D N f v n → IsMismatch D N f is v n
+mismatch_of D N f is v n are has = rw (only D f is has.integers are has.are) has.mismatch
+
+pub only_mismatch : (D : ℕ) (N : ℤ) (f : Family ℤ) (v u : List ℤ) (n m : ℤ) → HasMismatch D N f v n → HasMismatch D N f u m → (v ≡ u) × (n ≡ m)
+only_mismatch D N f v u n m first second = same_mismatch D N f first.integers v u n m first.mismatch (mismatch_of D N f first.integers u m first.are second)
+
+-- ---- it is seen when its class is read
+
+module _ (elsewhere : VanishesElsewhere) (D : ℕ) (N : ℤ) (f : Family ℤ) (front : List (List ℤ)) (v : List ℤ) (back : List (List ℤ)) (closed : IsClosedList D f ((front ++ (v ∷ [])) ++ back)) (normal : IsNormalized N f) where
+  abbrev Through : List Integer → List ℤ → Type 0
+  Through is u = (n : ℤ) → n ≤ℤ N → Agrees f is u n
+
+  module _ (is : List Integer) (n : ℤ) (begun : IsBegun D f (front ++ (v ∷ [])) back is) (all : AllByRecursion (Through is) front) (differs : Differs f is v n) (before : (m : ℤ) → m <ℤ n → Agrees f is v m) where
+    v_there : Contains (front ++ (v ∷ [])) v
+    v_there = Contains-append_right front (v ∷ []) v (contains-head v v [] refl)
+
+    -- a place of a class that was read is no place of difference before this one
+    first_read : (u : List ℤ) (m : ℤ) → m ≤ℤ N → Differs f (read_classes f is back) u m → Contains front u ⊎ Contains (v ∷ []) u → Contains (front ++ (v ∷ [])) u → IsFirst f.heights v n u m
+    first_read u m h other (inl there) read = absurd (other (kept elsewhere D f (front ++ (v ∷ [])) back closed is begun u read m ∙ all-contains (Through is) front u all there m h))
+    first_read u m h other (inr there) read = elim (contains-cases u v [] there) as (λ _. IsFirst f.heights v n u m) [
+      | inl same ↦ by_lt_z m n
+          (λ less. absurd (other (kept elsewhere D f (front ++ (v ∷ [])) back closed is begun u read m ∙ rw (← same) (before m less))))
+          (λ least. inr (sym same, least))
+      | inr nowhere ↦ absurd (let none = nowhere.1 in omega arith)
+    ]
+
+    first_listed : (u : List ℤ) (m : ℤ) → m ≤ℤ N → Differs f (read_classes f is back) u m → Contains (front ++ (v ∷ [])) u ⊎ Contains back u → IsFirst f.heights v n u m
+    first_listed u m h other (inl there) = first_read u m h other (Contains-append_cases front (v ∷ []) u there) there
+    first_listed u m h other (inr there) = inl (all-contains (IsBefore f.heights v) back u (all-contains (λ w. AllByRecursion (IsBefore f.heights w) back) (front ++ (v ∷ [])) v (before_back f.heights (front ++ (v ∷ [])) back closed.rises) v_there) there)
+
+    first : (normal_one : IsNormalized (pos 1) f) (u : List ℤ) (m : ℤ) → IsCompared D N f u m → Differs f (read_classes f is back) u m → IsFirst f.heights v n u m
+    first normal_one u m compared other = elim (listed_or_not ((front ++ (v ∷ [])) ++ back) u) as (λ _. IsFirst f.heights v n u m) [
+      | inl there ↦ first_listed u m compared.exponent other (Contains-append_cases (front ++ (v ∷ [])) back u there)
+      | inr none ↦
+          let are = extends elsewhere D f (front ++ (v ∷ [])) back closed is begun normal_one in
+          absurd (other (agrees_elsewhere elsewhere D f ((front ++ (v ∷ [])) ++ back) closed N (read_classes f is back) u m normal (positives D f.heights (read_classes f is back) are.ordered) (all_listed elsewhere D f (front ++ (v ∷ [])) back closed is begun) compared none))
+    ]
+
+    pub mismatch_at : pos 1 ≤ℤ N → n ≤ℤ N → HasMismatch D N f v n
+    mismatch_at up within =
+        let normal_one = normal_through (pos 1) N f up normal in
+        let class : IsClassTo D f.heights v = all-contains (IsClassTo D f.heights) ((front ++ (v ∷ [])) ++ back) v closed.each (Contains-append_left (front ++ (v ∷ [])) back v v_there) in
+        record {
+          integers = read_classes f is back;
+          are = extends elsewhere D f (front ++ (v ∷ [])) back closed is begun normal_one;
+          mismatch = record {
+            compared = record { entries = class.positive.entries; degree = class.within; exponent = within };
+            differs = λ e. differs (sym (kept elsewhere D f (front ++ (v ∷ [])) back closed is begun v v_there n) ∙ e);
+            first = first normal_one;
+          };
+        }
