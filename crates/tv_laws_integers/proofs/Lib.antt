@@ -6,3 +6,5 @@ pub mod ReadClasses
 pub mod Elsewhere
 pub mod Existence
 pub mod Mismatches
+pub mod Sorted
+pub mod Candidates
