@@ -3,7 +3,8 @@
 -- sum_below-same    equal terms make equal sums; sum_below-none, terms that are 0 the sum 0
 -- sum_below-add     the sum of two sums; sum_below-scale, a factor in front
 -- sum_below-front   the first term apart
--- sum_below-longer  terms that are 0 from n on change nothing; sum_below-first, where only the first term is left
+-- sum_below-longer  terms that are 0 from n on change nothing; sum_below-last, where the last one is;
+--                   sum_below-first, where only the first term is left
 -- sum_below-swap    two sums may be exchanged
 use Rattle.std.specs.Prelude.{◌≡◌, ℕ, zero, suc, ◌+◌, ◌-◌, ◌<◌, ◌≤◌, ℤ, pos, ◌+ℤ◌, ◌*ℤ◌}
 use Rattle.std.proofs.Common.{refl, ap, arith, ◌∙◌}
@@ -45,6 +46,10 @@ longer_by f n (suc d) (suc m) e none = omega (arith, ints, longer_by f n d m (om
 
 pub sum_below-longer : (f : ℕ → ℤ) (n m : ℕ) → n ≤ m → ((k : ℕ) → n ≤ k → k < m → f k ≡ pos 0) → sum_below f m ≡ sum_below f n
 sum_below-longer f n m h none = longer_by f n (m - n) m (omega arith) none
+
+pub sum_below-last : (f : ℕ → ℤ) (n : ℕ) → f n ≡ pos 0 → sum_below f (suc n) ≡ sum_below f n
+unfolding sum_below
+sum_below-last f n none = omega (arith, ints, none)
 
 pub sum_below-first : (f : ℕ → ℤ) (n : ℕ) → ((k : ℕ) → k < n → f (suc k) ≡ pos 0) → sum_below f (suc n) ≡ f 0
 sum_below-first f n none = omega (arith, ints, sum_below-front f n, sum_below-none (λ k. f (suc k)) n none)

@@ -6,12 +6,14 @@
 -- difference_by-last      the last time apart from the earlier ones
 -- difference_by-swap      two places taken off j and k times, in either order
 -- difference_by-degree    the degree that is left; difference_by-exponent, the exponent; difference_by-weight, the weight
--- taken-below             of less than k nothing is left, where at least 1 is taken off k times; taken-less, no more than there was
+-- taken-below             of less than k nothing is left, where at least 1 is taken off k times; difference_by-lower, no more than there
+--                         was; difference_by-used, nothing where it is taken off as often as the degree says
 use Rattle.std.specs.Prelude.{◌≡◌, ℕ, zero, suc, ◌*◌, ◌≤◌, ℤ, pos, negsuc, ◌-ℤ◌, ◌*ℤ◌, ◌≤ℤ◌, ◌<ℤ◌, List, [], ◌∷◌}
 use Rattle.std.proofs.Common.{refl, sym, ap, arith, ◌∙◌, mul-le-mul_left}
 use Rattle.std.proofs.Math.IntN.{zero-*ℤ}
 use Rattle.std.proofs.lemmas.Int.{ints}
 use Rattle.tv_lemmas.proofs.Integers.{mul-sub}
+use Rattle.tv_lemmas.proofs.Signs.{mul-nonneg-nonneg}
 use Rattle.tv_spec_katz.specs.Places.{Place, class_difference, difference, difference_by}
 use Rattle.tv_laws_katz.proofs.Multiplied.{suc-times}
 use Rattle.tv_laws_katz.specs.Weights.{weight}
@@ -37,6 +39,10 @@ class_difference-swap (x ∷ u) (y ∷ v) (z ∷ w) =
 
 pub difference-swap : (p x y : Place) → difference (difference p x) y ≡ difference (difference p y) x
 difference-swap p x y = place-same _ _ (omega (arith, ints)) (class_difference-swap p.class x.class y.class) (omega (arith, ints))
+
+pub difference_by-none : (p x : Place) → difference_by 0 p x ≡ p
+unfolding difference_by
+difference_by-none p x = refl
 
 pub difference_by-first : (k : ℕ) (p x y : Place) → difference_by k (difference p x) y ≡ difference (difference_by k p y) x
 unfolding difference_by
@@ -76,3 +82,11 @@ taken-below k d (pos e) h less =
     let many : k * 1 ≤ k * e = mul-le-mul_left k (omega (arith, ints)) in
     omega (arith, ints, many)
 taken-below k d (negsuc e) h less = absurd (omega (arith, ints))
+
+-- and no more than there was, where a degree of at least 1 is taken off
+pub difference_by-lower : (k : ℕ) (p x : Place) → pos 1 ≤ℤ x.degree → (difference_by k p x).degree ≤ℤ p.degree
+difference_by-lower k p x rising = omega (arith, ints, difference_by-degree k p x, mul-nonneg-nonneg (pos k) x.degree (omega (arith, ints)) (omega (arith, ints)))
+
+-- nor more than 0, where it is taken off at least as often as the degree says
+pub difference_by-used : (k : ℕ) (p x : Place) → pos 1 ≤ℤ x.degree → p.degree ≤ℤ pos k → (difference_by k p x).degree ≤ℤ pos 0
+difference_by-used k p x rising most = omega (arith, ints, difference_by-degree k p x, taken-below k (p.degree -ℤ pos 1) x.degree rising (omega (arith, ints)))

@@ -24,11 +24,11 @@ use Rattle.tv_laws_katz.proofs.Powers.{power_at-one, twice_signed, power_sign-sa
 use Rattle.tv_laws_katz.proofs.Units.{IsUnit, unit-one, unit-none}
 
 -- what is true of each factor of the integer at every exponent from its least one on is true of all
-record IsFactorOf (hs : List ℤ) (i : Integer) (f : Factor) : Type 0 where
-  exponent : ℤ
-  power : ℤ
-  is : f ≡ factor_at hs i exponent power
-  least : own_exponent i ≤ℤ exponent
+pub record IsFactorOf (hs : List ℤ) (i : Integer) (f : Factor) : Type 0 where
+  pub exponent : ℤ
+  pub power : ℤ
+  pub is : f ≡ factor_at hs i exponent power
+  pub least : own_exponent i ≤ℤ exponent
 
 zero-are : (hs : List ℤ) (J : ℕ) (i : Integer) → AllByRecursion (IsFactorOf hs i) (genus_zero hs J i)
 zero-are hs zero i = tt
@@ -38,11 +38,11 @@ higher-are : (hs : List ℤ) (n : ℕ) (i : Integer) → n ≤ 2 * i.genus - 1 �
 higher-are hs zero i h = tt
 higher-are hs (suc k) i h = (record { exponent = higher_exponent i k; power = higher_power i k; is = refl; least = omega (arith, ints) }, higher-are hs k i (omega arith))
 
-factors-are : (hs : List ℤ) (g J : ℕ) (i : Integer) → i.genus ≡ g → AllByRecursion (IsFactorOf hs i) (factors_by hs g J i)
+pub factors-are : (hs : List ℤ) (g J : ℕ) (i : Integer) → i.genus ≡ g → AllByRecursion (IsFactorOf hs i) (factors_by hs g J i)
 factors-are hs zero J i e = zero-are hs J i
 factors-are hs (suc g) J i e = higher-are hs (2 * i.genus - 1) i (omega arith)
 
-same-degree : (hs : List ℤ) (i : Integer) (f : Factor) → IsFactorOf hs i f → f.at.degree ≡ degree_of hs i.class
+pub same-degree : (hs : List ℤ) (i : Integer) (f : Factor) → IsFactorOf hs i f → f.at.degree ≡ degree_of hs i.class
 same-degree hs i f of = ap (λ (x : Factor). x.at.degree) of.is
 
 factors-high : (hs : List ℤ) (g J : ℕ) (i : Integer) (d : ℤ) → i.genus ≡ g → IsPositive hs i → d ≤ℤ degree_of hs i.class → AllByRecursion (IsHigh d) (factors_by hs g J i)

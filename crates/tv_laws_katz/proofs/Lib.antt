@@ -1,9 +1,13 @@
 pub mod BelowSums
 pub mod Differences
+pub mod Elsewhere
 pub mod FurtherInteger
 pub mod LargerBound
 pub mod Leading
+pub mod Logarithms
 pub mod Multiplied
 pub mod Outside
 pub mod Powers
+pub mod ProductRecurrence
+pub mod TermSizes
 pub mod Units

@@ -3,12 +3,13 @@
 -- choose-step      (k + 1) C(n, k + 1) + k C(n, k) = n C(n, k); choose-next, (k + 1) C(n + 1, k + 1) = (n + 1) C(n, k)
 -- choose-beyond    C(n, k) = 0 for k above n; choose-whole, C(n, n) = 1; choose-more, C(n, k) grows with n
 -- power_sign-next  the sign changes from one power to the next; power_sign-square, its square is 1; twice_signed, so that
---                  twice the sign in front is none; power_sign-same, the sign goes by parity
+--                  twice the sign in front is none; power_sign-same, the sign goes by parity; power_sign-size, a sign in
+--                  front does not count for the size
 -- power_at-zero    the coefficient of X^0 is 1; power_at-one, that of X^1 is minus the exponent
 -- power_at-next    the coefficient of X^(k + 1) by that of X^k
-use Rattle.std.specs.Prelude.{◌≡◌, ◌⊎◌, ℕ, zero, suc, ◌+◌, ◌*◌, ◌%◌, ◌<◌, ℤ, pos, negsuc, ◌-ℤ◌, ◌*ℤ◌, neg_ℤ, Bool, true, false, cond, nat_eq}
+use Rattle.std.specs.Prelude.{◌≡◌, ◌⊎◌, ℕ, zero, suc, ◌+◌, ◌-◌, ◌*◌, ◌%◌, ◌≤◌, ◌<◌, ℤ, pos, negsuc, ◌-ℤ◌, ◌*ℤ◌, neg_ℤ, unsigned_abs, Bool, true, false, cond, nat_eq}
 use Rattle.std.proofs.Common.{refl, ap, arith, ◌∙◌, sym, inl, inr}
-use Rattle.std.proofs.lemmas.Int.{ints}
+use Rattle.std.proofs.lemmas.Int.{ints, unsigned_abs-mul}
 use Rattle.std.proofs.lemmas.Bool.Decides.{nat_tests}
 use Rattle.tv_lemmas.proofs.Integers.{sub-mul}
 use Rattle.tv_laws_katz.proofs.Multiplied.{mul-mul, mul-middle, mul-neg, neg-pull, one-mul}
@@ -37,6 +38,19 @@ unfolding choose
 choose-whole zero = refl
 choose-whole (suc n) = omega (arith, choose-whole n, choose-beyond n (suc n) (omega arith))
 
+choose-next_row : (n k : ℕ) → choose n k ≤ choose (suc n) k
+unfolding choose
+choose-next_row n zero = omega arith
+choose-next_row n (suc k) = omega arith
+
+more_by : (m d n k : ℕ) → n ≡ d + m → choose m k ≤ choose n k
+more_by m zero n k e = let same : n ≡ m = omega (arith, e) in rw same (omega arith)
+more_by m (suc d) zero k e = absurd (omega (arith, e))
+more_by m (suc d) (suc n) k e = omega (arith, more_by m d n k (omega arith), choose-next_row n k)
+
+pub choose-more : (m n k : ℕ) → m ≤ n → choose m k ≤ choose n k
+choose-more m n k h = more_by m (n - m) n k (omega arith)
+
 pub choose-one : (n : ℕ) → choose n 1 ≡ n
 unfolding choose
 choose-one n = omega (arith, choose-step n 0)
@@ -55,6 +69,15 @@ square_by s (inr e) = rw e refl
 sign_is : (b : Bool) → (cond b (pos 1) (negsuc 0) ≡ pos 1) ⊎ (cond b (pos 1) (negsuc 0) ≡ negsuc 0)
 sign_is true = inl refl
 sign_is false = inr refl
+
+size_of_sign : (b : Bool) → unsigned_abs (cond b (pos 1) (negsuc 0)) ≡ 1
+size_of_sign true = refl
+size_of_sign false = refl
+
+pub power_sign-size : (k : ℕ) (z : ℤ) → unsigned_abs (power_sign k *ℤ z) ≡ unsigned_abs z
+power_sign-size k z =
+    let one : unsigned_abs (power_sign k) ≡ 1 = size_of_sign (nat_eq (k % 2) 0) in
+    unsigned_abs-mul (power_sign k) z ∙ (ap (λ n. n * unsigned_abs z) one ∙ omega arith)
 
 pub power_sign-square : (k : ℕ) → power_sign k *ℤ power_sign k ≡ pos 1
 power_sign-square k = square_by (power_sign k) (sign_is (nat_eq (k % 2) 0))

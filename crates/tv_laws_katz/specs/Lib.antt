@@ -1,2 +1,4 @@
 pub mod Further
+pub mod Recurrence
+pub mod Sizes
 pub mod Weights

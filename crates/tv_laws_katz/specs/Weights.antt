@@ -7,13 +7,15 @@
 -- KatzIsProduct    == Katz's product is the one over the factors of genus 0 with j up to any J of at least the weight
 -- LargerFactors    == it is that for every J of at least its bound
 -- VanishesBySlope  == where all genera are within a slope w, it is 0 at weights below 0
--- IsSumClosed hs D S i == with v less the class of the integer, v is in the set of classes, where its degree is at most D
--- VanishesElsewhere == it is 0 outside a set of classes that has class zero and is closed under adding the classes
-use Rattle.std.specs.Prelude.{◌≡◌, ℕ, ◌≤◌, true, ℤ, pos, ◌+ℤ◌, ◌*ℤ◌, ◌≤ℤ◌, ◌<ℤ◌, unsigned_abs, List, length}
+-- UnitBelowOne     == at degrees of at most 0 it is 1 at class zero and exponent 0, and else 0
+-- IsSumClosed hs D S i == the class of the integer has an entry for each height and a degree of at least 1, and the test S of
+--                     classes passes a class of degree at most D where it passes that class less the integer's
+-- VanishesElsewhere == it is 0 at classes that fail a test which passes class zero and all sums with the integers' classes
+use Rattle.std.specs.Prelude.{◌≡◌, ℕ, ◌≤◌, Bool, true, false, ℤ, pos, ◌+ℤ◌, ◌*ℤ◌, ◌≤ℤ◌, ◌<ℤ◌, unsigned_abs, List, length}
 use Rattle.std.specs.List.{AllByRecursion}
 use Rattle.tv_spec_plane.specs.Web.{degree_of}
 use Rattle.tv_spec_katz.specs.Binomials.{power_sign}
-use Rattle.tv_spec_katz.specs.Places.{Place, place, class_difference, is_zero_class}
+use Rattle.tv_spec_katz.specs.Places.{Place, place, class_difference, is_zero_class, unit}
 use Rattle.tv_spec_katz.specs.Product.{Factor, product}
 use Rattle.tv_spec_katz.specs.Katz.{Integer, factors, factor_bound, katz}
 use Rattle.tv_laws_katz.specs.Further.{IsPositive}
@@ -46,11 +48,17 @@ VanishesBySlope =
     (hs : List ℤ) (w : ℕ) (is : List Integer) (v : List ℤ) (n : ℤ) → AllByRecursion (IsWithinSlope hs w) is →
     weight w (place hs v n) <ℤ pos 0 → katz hs is v n ≡ pos 0
 
-abbrev pub IsSumClosed : List ℤ → ℕ → (List ℤ → Type 0) → Integer → Type 0
-IsSumClosed hs D S i = (v : List ℤ) → length v ≡ length hs → degree_of hs v ≤ℤ pos D → S (class_difference v i.class) → S v
+abbrev pub UnitBelowOne : Type 0
+UnitBelowOne =
+    (hs : List ℤ) (is : List Integer) (v : List ℤ) (n : ℤ) → degree_of hs v ≤ℤ pos 0 → katz hs is v n ≡ unit (place hs v n)
 
-abbrev pub VanishesElsewhere : Type 1
+pub record IsSumClosed (hs : List ℤ) (D : ℕ) (S : List ℤ → Bool) (i : Integer) : Type 0 where
+  pub entries : length i.class ≡ length hs
+  pub positive : IsPositive hs i
+  pub sums : (v : List ℤ) → length v ≡ length hs → degree_of hs v ≤ℤ pos D → S (class_difference v i.class) ≡ true → S v ≡ true
+
+abbrev pub VanishesElsewhere : Type 0
 VanishesElsewhere =
-    (hs : List ℤ) (D : ℕ) (S : List ℤ → Type 0) (is : List Integer) (v : List ℤ) (n : ℤ) →
-    ((u : List ℤ) → length u ≡ length hs → is_zero_class u ≡ true → S u) → AllByRecursion (IsPositive hs) is →
-    AllByRecursion (IsSumClosed hs D S) is → length v ≡ length hs → degree_of hs v ≤ℤ pos D → (S v → ⊥) → katz hs is v n ≡ pos 0
+    (hs : List ℤ) (D : ℕ) (S : List ℤ → Bool) (is : List Integer) (v : List ℤ) (n : ℤ) →
+    ((u : List ℤ) → length u ≡ length hs → is_zero_class u ≡ true → S u ≡ true) → AllByRecursion (IsSumClosed hs D S) is →
+    length v ≡ length hs → degree_of hs v ≤ℤ pos D → S v ≡ false → katz hs is v n ≡ pos 0
