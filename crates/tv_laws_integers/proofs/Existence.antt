@@ -1,8 +1,5 @@
 -- What is read of a closed list of classes are the integers of a normalized family, and no other list is.
---
--- IsBegun D f front back is == the integers of the classes of `front`, all before those of `back`: they are in order, and the product agrees
---                              with the family at each class of `front` at every exponent at most 1
-use Rattle.std.proofs.Common.{◌≡◌, ◌⊎◌, inl, inr, Contains, ℕ, ℤ, pos, ◌≤ℤ◌, List, [], ◌∷◌, ◌++◌, sym, ◌∙◌, arith}
+use Rattle.std.proofs.Common.{◌≡◌, ◌⊎◌, inl, inr, Contains, ℕ, ℤ, pos, List, [], ◌∷◌, ◌++◌, sym, ◌∙◌, arith}
 use Rattle.std.proofs.lemmas.Int.{ints}
 use Rattle.std.proofs.lemmas.List.Elements.{Contains-append_left}
 use Rattle.std.specs.List.{AllByRecursion}
@@ -17,11 +14,10 @@ use Rattle.tv_spec_katz.specs.Katz.{Integer, katz}
 use Rattle.tv_spec_katz.specs.Integers.{Agrees, IsCompared, read_classes}
 use Rattle.tv_spec_katz.specs.Relations.{IsInteger, AreOrdered, AreIntegers, IsNormalized}
 use Rattle.tv_laws_katz.specs.Further.{own_exponent}
-use Rattle.tv_laws_katz.specs.Weights.{VanishesElsewhere}
 use Rattle.tv_laws_integers.specs.Closed.{IsClassTo, IsClosedList, IsListed}
-use Rattle.tv_laws_integers.proofs.Later.{positives}
+use Rattle.tv_laws_integers.specs.Reading.{AgreesThrough, IsBegun}
 use Rattle.tv_laws_integers.proofs.Only.{AgreeAt, only_at}
-use Rattle.tv_laws_integers.proofs.ReadClasses.{AgreesAtMostOne, AreReadOf, read_all, read_classes_of}
+use Rattle.tv_laws_integers.proofs.ReadClasses.{AreReadOf, read_all, read_classes_of}
 use Rattle.tv_laws_integers.proofs.Elsewhere.{agrees_elsewhere}
 
 -- ---- no other list
@@ -63,21 +59,16 @@ listed_or_not (u ∷ vs) v = bool_cases (same_vector u v)
 
 -- ---- what is read
 
-pub record IsBegun (D : ℕ) (f : Family ℤ) (front back : List (List ℤ)) (is : List Integer) : Type 0 where
-  pub ordered : AreOrdered D f.heights is
-  pub listed : AllByRecursion (IsListed front) is
-  pub agrees : AllByRecursion (AgreesAtMostOne f is) front
-
-module _ (elsewhere : VanishesElsewhere) (D : ℕ) (f : Family ℤ) where
+module _ (D : ℕ) (f : Family ℤ) where
   -- integers of listed classes that agree at the list agree everywhere
-  pub agrees_through : (N : ℤ) (vs : List (List ℤ)) (is : List Integer) → IsClosedList D f vs → IsNormalized N f → AreOrdered D f.heights is → AllByRecursion (IsListed vs) is →
-      AllByRecursion (λ v. (n : ℤ) → n ≤ℤ N → Agrees f is v n) vs → (v : List ℤ) (n : ℤ) → IsCompared D N f v n → Agrees f is v n
-  agrees_through N vs is closed normal order listed all v n compared = elim (listed_or_not vs v) as (λ _. Agrees f is v n) [
-    | inl there ↦ all-contains (λ v. (n : ℤ) → n ≤ℤ N → Agrees f is v n) vs v all there n compared.exponent
-    | inr none ↦ agrees_elsewhere elsewhere D f vs closed N is v n normal (positives D f.heights is order) listed compared none
+  pub agrees_through : (N : ℤ) (vs : List (List ℤ)) (is : List Integer) → IsClosedList D f vs → IsNormalized N f → AllByRecursion (IsListed vs) is →
+      AllByRecursion (AgreesThrough N f is) vs → (v : List ℤ) (n : ℤ) → IsCompared D N f v n → Agrees f is v n
+  agrees_through N vs is closed normal listed all v n compared = elim (listed_or_not vs v) as (λ _. Agrees f is v n) [
+    | inl there ↦ all-contains (AgreesThrough N f is) vs v all there n compared.exponent
+    | inr none ↦ agrees_elsewhere D f vs closed N is v n normal listed compared none
   ]
 
-  module _ (front back : List (List ℤ)) (closed : IsClosedList D f (front ++ back)) (is : List Integer) (begun : IsBegun D f front back is) where
+  module _ (front back : List (List ℤ)) (closed : IsClosedList D f (front ++ back)) (is : List Integer) (begun : IsBegun D f front is) where
     rest : AreReadOf D f back is (read_classes f is back)
     rest = read_all D f back is (all-back (IsClassTo D f.heights) front back closed.each) (back_rises f.heights front back closed.rises) begun.ordered
         (all-onto (IsListed front) (λ i. AllByRecursion (IsBefore f.heights i.class) back) (λ i there. all-contains (λ u. AllByRecursion (IsBefore f.heights u) back) front i.class (before_back f.heights front back closed.rises) there) is begun.listed)
@@ -91,11 +82,11 @@ module _ (elsewhere : VanishesElsewhere) (D : ℕ) (f : Family ℤ) where
 
     -- what is read of the back makes them the integers of the family
     pub extends : IsNormalized (pos 1) f → AreIntegers D f (read_classes f is back)
-    extends normal = record { ordered = rest.ordered; agrees = agrees_through (pos 1) (front ++ back) (read_classes f is back) closed normal rest.ordered all_listed at_most_one }
+    extends normal = record { ordered = rest.ordered; agrees = agrees_through (pos 1) (front ++ back) (read_classes f is back) closed normal all_listed at_most_one }
       where
-        at_most_one : AllByRecursion (AgreesAtMostOne f (read_classes f is back)) (front ++ back)
-        at_most_one = all-append (AgreesAtMostOne f (read_classes f is back)) front back
-            (all-both (Contains front) (AgreesAtMostOne f is) (AgreesAtMostOne f (read_classes f is back)) (λ u there e n h. kept u there n ∙ e n h) front (all-members front) begun.agrees)
+        at_most_one : AllByRecursion (AgreesThrough (pos 1) f (read_classes f is back)) (front ++ back)
+        at_most_one = all-append (AgreesThrough (pos 1) f (read_classes f is back)) front back
+            (all-both (Contains front) (AgreesThrough (pos 1) f is) (AgreesThrough (pos 1) f (read_classes f is back)) (λ u there e n h. kept u there n ∙ e n h) front (all-members front) begun.agrees)
             rest.agrees
 
   pub are_integers : (vs : List (List ℤ)) → IsClosedList D f vs → IsNormalized (pos 1) f → AreIntegers D f (read_classes f [] vs)

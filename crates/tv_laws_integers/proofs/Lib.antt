@@ -8,3 +8,4 @@ pub mod Existence
 pub mod Mismatches
 pub mod Sorted
 pub mod Candidates
+pub mod Proved

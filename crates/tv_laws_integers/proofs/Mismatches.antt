@@ -1,6 +1,6 @@
 -- Where product and family differ first: it is seen as soon as the classes up to that one are read, and there is one such place at
 -- most.
-use Rattle.std.proofs.Common.{◌≡◌, ◌⊎◌, inl, inr, Contains, ℕ, ℤ, pos, ◌≤ℤ◌, ◌<ℤ◌, List, ◌++◌, sym, ◌∙◌, arith}
+use Rattle.std.proofs.Common.{◌≡◌, ◌⊎◌, inl, inr, Contains, ℕ, ℤ, pos, ◌≤ℤ◌, List, ◌++◌, sym, ◌∙◌, arith}
 use Rattle.std.proofs.lemmas.Int.{ints, by_lt_z}
 use Rattle.std.proofs.lemmas.List.Elements.{Contains-append_left, Contains-append_cases}
 use Rattle.std.specs.List.{AllByRecursion}
@@ -9,13 +9,12 @@ use Rattle.tv_spec_boxes.specs.Classes.{IsBefore}
 use Rattle.tv_spec_series.specs.Families.{Family}
 use Rattle.tv_spec_series.proofs.Order.{before_strict, before_trans, before_apart}
 use Rattle.tv_spec_katz.specs.Katz.{Integer}
-use Rattle.tv_spec_katz.specs.Integers.{Agrees, Differs, IsCompared, IsMismatch, read_classes}
-use Rattle.tv_spec_katz.specs.Relations.{AreOrdered, AreIntegers, IsNormalized, HasMismatch}
-use Rattle.tv_laws_katz.specs.Weights.{VanishesElsewhere}
+use Rattle.tv_spec_katz.specs.Integers.{Differs, IsCompared, IsMismatch, read_classes}
+use Rattle.tv_spec_katz.specs.Relations.{AreIntegers, IsNormalized, HasMismatch}
 use Rattle.tv_laws_integers.specs.Closed.{IsClassTo, IsClosedList}
-use Rattle.tv_laws_integers.proofs.Later.{positives}
+use Rattle.tv_laws_integers.specs.Reading.{AgreesThrough, IsBegun, IsSeen}
 use Rattle.tv_laws_integers.proofs.Elsewhere.{agrees_elsewhere}
-use Rattle.tv_laws_integers.proofs.Existence.{IsBegun, only, before_back, listed_or_not, kept, all_listed, extends}
+use Rattle.tv_laws_integers.proofs.Existence.{only, before_back, listed_or_not, kept, all_listed, extends}
 
 pub normal_through : (M N : ℤ) (f : Family ℤ) → M ≤ℤ N → IsNormalized N f → IsNormalized M f
 normal_through M N f h normal = record { unit = normal.unit; none = λ n k other. normal.none n (omega (arith, ints)) other; others = normal.others }
@@ -43,44 +42,33 @@ only_mismatch D N f v u n m first second = same_mismatch D N f first.integers v 
 
 -- ---- it is seen when its class is read
 
-abbrev pub AgreesThrough : ℤ → Family ℤ → List Integer → List ℤ → Type 0
-AgreesThrough N f is u = (m : ℤ) → m ≤ℤ N → Agrees f is u m
-
--- of the classes that were read each but v agrees through N, and v differs first at n
-pub record IsSeen (N : ℤ) (f : Family ℤ) (read : List (List ℤ)) (is : List Integer) (v : List ℤ) (n : ℤ) : Type 0 where
-  pub there : Contains read v
-  pub within : n ≤ℤ N
-  pub others : (u : List ℤ) → Contains read u → (u ≡ v) ⊎ AgreesThrough N f is u
-  pub before : (m : ℤ) → m <ℤ n → Agrees f is v m
-  pub differs : Differs f is v n
-
-module _ (elsewhere : VanishesElsewhere) (D : ℕ) (N : ℤ) (f : Family ℤ) (read back : List (List ℤ)) (closed : IsClosedList D f (read ++ back)) (is : List Integer) (begun : IsBegun D f read back is) (v : List ℤ) (n : ℤ) (seen : IsSeen N f read is v n) where
+module _ (D : ℕ) (N : ℤ) (f : Family ℤ) (read back : List (List ℤ)) (closed : IsClosedList D f (read ++ back)) (is : List Integer) (begun : IsBegun D f read is) (v : List ℤ) (n : ℤ) (seen : IsSeen N f read is v n) where
   first_read : (u : List ℤ) (m : ℤ) → m ≤ℤ N → Differs f (read_classes f is back) u m → Contains read u → (u ≡ v) ⊎ AgreesThrough N f is u → IsFirst f.heights v n u m
   first_read u m h other there (inl same) = by_lt_z m n
-      (λ less. absurd (other (kept elsewhere D f read back closed is begun u there m ∙ rw same (seen.before m less))))
+      (λ less. absurd (other (kept D f read back closed is begun u there m ∙ rw same (seen.before m less))))
       (λ least. inr (same, least))
-  first_read u m h other there (inr through) = absurd (other (kept elsewhere D f read back closed is begun u there m ∙ through m h))
+  first_read u m h other there (inr through) = absurd (other (kept D f read back closed is begun u there m ∙ through m h))
 
   first_listed : (u : List ℤ) (m : ℤ) → m ≤ℤ N → Differs f (read_classes f is back) u m → Contains read u ⊎ Contains back u → IsFirst f.heights v n u m
   first_listed u m h other (inl there) = first_read u m h other there (seen.others u there)
   first_listed u m h other (inr there) = inl (all-contains (IsBefore f.heights v) back u (all-contains (λ w. AllByRecursion (IsBefore f.heights w) back) read v (before_back f.heights read back closed.rises) seen.there) there)
 
-  first : IsNormalized N f → AreOrdered D f.heights (read_classes f is back) → (u : List ℤ) (m : ℤ) → IsCompared D N f u m → Differs f (read_classes f is back) u m → IsFirst f.heights v n u m
-  first normal order u m compared other = elim (listed_or_not (read ++ back) u) as (λ _. IsFirst f.heights v n u m) [
+  first : IsNormalized N f → (u : List ℤ) (m : ℤ) → IsCompared D N f u m → Differs f (read_classes f is back) u m → IsFirst f.heights v n u m
+  first normal u m compared other = elim (listed_or_not (read ++ back) u) as (λ _. IsFirst f.heights v n u m) [
     | inl there ↦ first_listed u m compared.exponent other (Contains-append_cases read back u there)
-    | inr none ↦ absurd (other (agrees_elsewhere elsewhere D f (read ++ back) closed N (read_classes f is back) u m normal (positives D f.heights (read_classes f is back) order) (all_listed elsewhere D f read back closed is begun) compared none))
+    | inr none ↦ absurd (other (agrees_elsewhere D f (read ++ back) closed N (read_classes f is back) u m normal (all_listed D f read back closed is begun) compared none))
   ]
 
   pub mismatch_at : pos 1 ≤ℤ N → IsNormalized N f → HasMismatch D N f v n
   mismatch_at up normal =
-      let are = extends elsewhere D f read back closed is begun (normal_through (pos 1) N f up normal) in
+      let are = extends D f read back closed is begun (normal_through (pos 1) N f up normal) in
       let class : IsClassTo D f.heights v = all-contains (IsClassTo D f.heights) (read ++ back) v closed.each (Contains-append_left read back v seen.there) in
       record {
         integers = read_classes f is back;
         are = are;
         mismatch = record {
           compared = record { entries = class.positive.entries; degree = class.within; exponent = seen.within };
-          differs = λ e. seen.differs (sym (kept elsewhere D f read back closed is begun v seen.there n) ∙ e);
-          first = first normal are.ordered;
+          differs = λ e. seen.differs (sym (kept D f read back closed is begun v seen.there n) ∙ e);
+          first = first normal;
         };
       }

@@ -1,7 +1,6 @@
 -- What is read of a whole class, and of a rising list of classes: the product agrees with the family at every exponent at most 1
 -- of each, and stays the same at all earlier classes.
 --
--- AgreesAtMostOne is v == at the class v the product and the family agree at every exponent at most 1
 -- ArePast vs is      == each of the integers comes before all of the classes
 -- IsReadOf D f v is more == `more` is `is` after the class v
 -- AreReadOf D f vs is more == `more` is `is` after the classes
@@ -26,12 +25,10 @@ use Rattle.tv_laws_katz.specs.Further.{IsPositive}
 use Rattle.tv_laws_katz.specs.Weights.{IsWithinSlope}
 use Rattle.tv_laws_katz.proofs.LargerBound.{vanishes_by_slope}
 use Rattle.tv_laws_integers.specs.Closed.{IsClassTo}
+use Rattle.tv_laws_integers.specs.Reading.{AgreesThrough}
 use Rattle.tv_laws_integers.proofs.Later.{positives}
 use Rattle.tv_laws_integers.proofs.Reading.{IsPast, down}
 use Rattle.tv_laws_integers.proofs.Depth.{below_series, genera_within}
-
-abbrev pub AgreesAtMostOne : Family ℤ → List Integer → List ℤ → Type 0
-AgreesAtMostOne f is v = (n : ℤ) → n ≤ℤ pos 1 → Agrees f is v n
 
 -- ---- where the classes come from
 
@@ -68,12 +65,12 @@ ArePast hs vs is = AllByRecursion (λ i. AllByRecursion (IsBefore hs i.class) vs
 
 pub record IsReadOf (D : ℕ) (f : Family ℤ) (v : List ℤ) (is more : List Integer) : Type 0 where
   pub ordered : AreOrdered D f.heights more
-  pub agrees : AgreesAtMostOne f more v
+  pub agrees : AgreesThrough (pos 1) f more v
   pub same : (u : List ℤ) (n : ℤ) → IsBefore f.heights u v → katz f.heights more u n ≡ katz f.heights is u n
 
 pub record AreReadOf (D : ℕ) (f : Family ℤ) (vs : List (List ℤ)) (is more : List Integer) : Type 0 where
   pub ordered : AreOrdered D f.heights more
-  pub agrees : AllByRecursion (AgreesAtMostOne f more) vs
+  pub agrees : AllByRecursion (AgreesThrough (pos 1) f more) vs
   pub same : (u : List ℤ) (n : ℤ) → AllByRecursion (IsBefore f.heights u) vs → katz f.heights more u n ≡ katz f.heights is u n
 
 natural-is : (z : ℤ) → pos 0 ≤ℤ z → z ≡ pos (natural z)

@@ -1,0 +1,43 @@
+//! Laws of the integers of a family: each function does nothing, and its contract is a law.
+
+ghost use Rattle.tv_laws_integers.specs.Laws.{IntegersAre, IntegersOnly, IntegersGoOn, AgreeEverywhere, MismatchFirst, MismatchOnly, MismatchSeen};
+
+/// In a family whose class zero has the series 1 and whose other classes have degrees of at least 1, what is read off class by
+/// class, and in each from the greatest genus down, are its integers: at every class of degree at most D, Katz's product over
+/// them and the family agree at every exponent at most 1.
+pub fn integers_are()
+    ensures { IntegersAre }
+{}
+
+/// No other list has that, of integers other than 0 over classes of degree 1 to D, listed from the last class and the least genus
+/// on. It is enough that two lists agree where their own integers begin, at the exponents 1 - genus.
+pub fn integers_only()
+    ensures { IntegersOnly }
+{}
+
+/// They are read over any list of classes, in order, that has those of the family and with two classes their sum; what later
+/// classes add changes no product of earlier ones.
+pub fn integers_go_on()
+    ensures { IntegersGoOn }
+{}
+
+/// Where product and family agree through N at the classes of such a list, they agree at all classes of degree at most D.
+pub fn agree_everywhere()
+    ensures { AgreeEverywhere }
+{}
+
+/// The mismatch of a family is the first class of degree at most D, and in it the first exponent at most N, at which it differs
+/// from the product over what is read off it.
+pub fn mismatch_first()
+    ensures { MismatchFirst }
+{}
+
+/// There is one such place at most.
+pub fn mismatch_only()
+    ensures { MismatchOnly }
+{}
+
+/// It is found where classes are read in order and compared through N, at the first difference.
+pub fn mismatch_seen()
+    ensures { MismatchSeen }
+{}
