@@ -17,7 +17,7 @@ use Rattle.tv_laws_katz.specs.Further.{own_exponent}
 use Rattle.tv_laws_integers.specs.Closed.{IsClassTo, IsClosedList, IsListed}
 use Rattle.tv_laws_integers.specs.Reading.{AgreesThrough, IsBegun}
 use Rattle.tv_laws_integers.proofs.Only.{AgreeAt, only_at}
-use Rattle.tv_laws_integers.proofs.ReadClasses.{AreReadOf, read_all, read_classes_of}
+use Rattle.tv_laws_integers.proofs.Classes.{AreReadOf, read_all, read_classes_of}
 use Rattle.tv_laws_integers.proofs.Elsewhere.{agrees_elsewhere}
 
 -- ---- no other list

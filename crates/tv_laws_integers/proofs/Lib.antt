@@ -1,11 +1,12 @@
 pub mod Later
 pub mod Only
-pub mod Reading
+pub mod Genera
 pub mod Depth
-pub mod ReadClasses
+pub mod Classes
 pub mod Elsewhere
 pub mod Existence
 pub mod Mismatches
 pub mod Sorted
 pub mod Candidates
 pub mod Proved
+mod IntegerValues

@@ -27,7 +27,7 @@ use Rattle.tv_laws_katz.proofs.LargerBound.{vanishes_by_slope}
 use Rattle.tv_laws_integers.specs.Closed.{IsClassTo}
 use Rattle.tv_laws_integers.specs.Reading.{AgreesThrough}
 use Rattle.tv_laws_integers.proofs.Later.{positives}
-use Rattle.tv_laws_integers.proofs.Reading.{IsPast, down}
+use Rattle.tv_laws_integers.proofs.Genera.{IsPast, down}
 use Rattle.tv_laws_integers.proofs.Depth.{below_series, genera_within}
 
 -- ---- where the classes come from
