@@ -10,3 +10,4 @@ pub mod Sorted
 pub mod Candidates
 pub mod Proved
 mod IntegerValues
+pub mod Normalized
