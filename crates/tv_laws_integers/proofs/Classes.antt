@@ -73,7 +73,7 @@ pub record AreReadOf (D : ℕ) (f : Family ℤ) (vs : List (List ℤ)) (is more 
   pub agrees : AllByRecursion (AgreesThrough (pos 1) f more) vs
   pub same : (u : List ℤ) (n : ℤ) → AllByRecursion (IsBefore f.heights u) vs → katz f.heights more u n ≡ katz f.heights is u n
 
-natural-is : (z : ℤ) → pos 0 ≤ℤ z → z ≡ pos (natural z)
+pub natural-is : (z : ℤ) → pos 0 ≤ℤ z → z ≡ pos (natural z)
 natural-is (pos n) h = refl
 natural-is (negsuc n) h = absurd (omega (arith, ints))
 

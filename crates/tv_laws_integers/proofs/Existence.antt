@@ -15,18 +15,18 @@ use Rattle.tv_spec_katz.specs.Integers.{Agrees, IsCompared, read_classes}
 use Rattle.tv_spec_katz.specs.Relations.{IsInteger, AreOrdered, AreIntegers, IsNormalized}
 use Rattle.tv_laws_katz.specs.Further.{own_exponent}
 use Rattle.tv_laws_integers.specs.Closed.{IsClassTo, IsClosedList, IsListed}
-use Rattle.tv_laws_integers.specs.Reading.{AgreesThrough, IsBegun}
-use Rattle.tv_laws_integers.proofs.Only.{AgreeAt, only_at}
+use Rattle.tv_laws_integers.specs.Reading.{AgreeAt, AgreesThrough, IsBegun}
+use Rattle.tv_laws_integers.proofs.Only.{only_at}
 use Rattle.tv_laws_integers.proofs.Classes.{AreReadOf, read_all, read_classes_of}
 use Rattle.tv_laws_integers.proofs.Elsewhere.{agrees_elsewhere}
 
 -- ---- no other list
 
-each_integer : (D : ℕ) (hs : List ℤ) (is : List Integer) → AreOrdered D hs is → AllByRecursion (IsInteger D hs) is
+pub each_integer : (D : ℕ) (hs : List ℤ) (is : List Integer) → AreOrdered D hs is → AllByRecursion (IsInteger D hs) is
 each_integer D hs [] order = tt
 each_integer D hs (i ∷ is) order = (order.0, each_integer D hs is order.1.1)
 
-own_place : (D : ℕ) (f : Family ℤ) (i : Integer) → IsInteger D f.heights i → IsCompared D (pos 1) f i.class (own_exponent i)
+pub own_place : (D : ℕ) (f : Family ℤ) (i : Integer) → IsInteger D f.heights i → IsCompared D (pos 1) f i.class (own_exponent i)
 own_place D f i is = record { entries = is.positive.entries; degree = is.within; exponent = omega (arith, ints) }
 
 pub only : (D : ℕ) (f : Family ℤ) (is js : List Integer) → AreIntegers D f is → AreIntegers D f js → is ≡ js

@@ -11,3 +11,4 @@ pub mod Candidates
 pub mod Proved
 mod IntegerValues
 pub mod Normalized
+pub mod Slopes

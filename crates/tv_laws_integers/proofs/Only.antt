@@ -1,6 +1,4 @@
 -- Two lists of integers whose products agree at the places where the integers of both begin are the same list.
---
--- AgreeAt hs is js k == the products over both lists agree at the place where the integer k begins
 use Rattle.std.proofs.Common.{◌≡◌, inl, inr, ℕ, zero, suc, ◌+◌, ◌≤◌, ℤ, pos, ◌+ℤ◌, ◌-ℤ◌, List, [], ◌∷◌, length, refl, sym, ◌∙◌, ap, arith}
 use Rattle.std.proofs.lemmas.Int.{ints}
 use Rattle.std.specs.List.{AllByRecursion}
@@ -9,10 +7,8 @@ use Rattle.tv_spec_katz.specs.Katz.{Integer, katz}
 use Rattle.tv_spec_katz.specs.Relations.{ComesLater, AreOrdered}
 use Rattle.tv_laws_katz.specs.Further.{IsPositive, own_exponent}
 use Rattle.tv_laws_katz.proofs.FurtherInteger.{new_integer, unchanged}
+use Rattle.tv_laws_integers.specs.Reading.{AgreeAt}
 use Rattle.tv_laws_integers.proofs.Later.{later_total, later_all, later_alike, earlier_place, positives}
-
-abbrev pub AgreeAt : List ℤ → List Integer → List Integer → Integer → Type 0
-AgreeAt hs is js k = katz hs is k.class (own_exponent k) ≡ katz hs js k.class (own_exponent k)
 
 turned : (hs : List ℤ) (is js ks : List Integer) → AllByRecursion (AgreeAt hs is js) ks → AllByRecursion (AgreeAt hs js is) ks
 turned hs is js ks all = all-onto (AgreeAt hs is js) (AgreeAt hs js is) (λ k e. sym e) ks all

@@ -2,28 +2,42 @@
 --
 -- IntegersAre    == what is read off a normalized family class by class, over the sums of its classes, are its integers
 -- IntegersOnly   == a family has at most one list of integers to a degree
+-- OnlyWhereTheyBegin == nor do two lists of integers differ, in order and to that degree, that have one product where their own integers begin
 -- IntegersGoOn   == over any closed list of classes what was begun goes on to the integers, and the classes that were read keep their product
 -- AgreeEverywhere == where product and normalized family agree through N at each class of a closed list, they do at every class of
 --                   degree at most D
 -- GoesOn D f read back is == the integers `is` and what is then read of `back` are the integers of the family, and the product keeps its
 --                   values at the classes of `read`
+-- SlopeOfSeries  == the greatest slope of the integers is the least c such that each series begins at - c * degree or above: it is known
+--                   before the first integer
+-- ReducedNormalized == a reduced family of a graded web with a height for each point and all open edges empty is normalized
 -- MismatchFirst  == a mismatch of a normalized family is the first place at which it differs from the product over what is read off it
 -- MismatchOnly   == a family has at most one mismatch
 -- MismatchSeen   == it is seen as soon as the classes up to its own are read
-use Rattle.std.specs.Prelude.{◌≡◌, Contains, ℕ, ℤ, pos, ◌≤ℤ◌, List, ◌++◌}
+use Rattle.std.specs.Prelude.{◌≡◌, Contains, ℕ, ◌≤◌, ℤ, pos, ◌≤ℤ◌, List, ◌++◌, length}
 use Rattle.std.specs.List.{AllByRecursion}
+use Rattle.tv_ring.specs.Whole.{wholes}
+use Rattle.tv_spec_plane.specs.Web.{Web}
+use Rattle.tv_spec_plane.specs.Graded.{IsGraded}
+use Rattle.tv_spec_boxes.specs.Assignments.{no_legs}
 use Rattle.tv_spec_series.specs.Families.{Family}
+use Rattle.tv_spec_series.specs.ReducedFamilies.{IsReducedFamily}
 use Rattle.tv_spec_katz.specs.Katz.{Integer, katz}
 use Rattle.tv_spec_katz.specs.Integers.{Agrees, IsCompared, IsMismatch, integers, read_classes}
-use Rattle.tv_spec_katz.specs.Relations.{AreIntegers, IsNormalized, HasMismatch}
+use Rattle.tv_spec_katz.specs.Majorant.{greatest_slope}
+use Rattle.tv_spec_katz.specs.Relations.{AreOrdered, AreIntegers, IsNormalized, HasMismatch}
 use Rattle.tv_laws_integers.specs.Closed.{IsClosedList, IsListed}
-use Rattle.tv_laws_integers.specs.Reading.{AgreesThrough, IsBegun, IsSeen}
+use Rattle.tv_laws_integers.specs.Reading.{AgreeAt, BeginsAbove, AgreesThrough, IsBegun, IsSeen}
 
 abbrev pub IntegersAre : Type 0
 IntegersAre = (D : ℕ) (f : Family ℤ) → IsNormalized (pos 1) f → AreIntegers D f (integers D f)
 
 abbrev pub IntegersOnly : Type 0
 IntegersOnly = (D : ℕ) (f : Family ℤ) (is js : List Integer) → AreIntegers D f is → AreIntegers D f js → is ≡ js
+
+abbrev pub OnlyWhereTheyBegin : Type 0
+OnlyWhereTheyBegin = (D : ℕ) (hs : List ℤ) (is js : List Integer) → AreOrdered D hs is → AreOrdered D hs js
+    → AllByRecursion (AgreeAt hs is js) is → AllByRecursion (AgreeAt hs is js) js → is ≡ js
 
 pub record GoesOn (D : ℕ) (f : Family ℤ) (read back : List (List ℤ)) (is : List Integer) : Type 0 where
   pub are : AreIntegers D f (read_classes f is back)
@@ -36,6 +50,14 @@ IntegersGoOn = (D : ℕ) (f : Family ℤ) (read back : List (List ℤ)) (is : Li
 abbrev pub AgreeEverywhere : Type 0
 AgreeEverywhere = (D : ℕ) (N : ℤ) (f : Family ℤ) (vs : List (List ℤ)) (is : List Integer) → IsNormalized N f → IsClosedList D f vs
     → AllByRecursion (IsListed vs) is → AllByRecursion (AgreesThrough N f is) vs → (v : List ℤ) (n : ℤ) → IsCompared D N f v n → Agrees f is v n
+
+abbrev pub SlopeOfSeries : Type 0
+SlopeOfSeries = (D : ℕ) (f : Family ℤ) (is : List Integer) (c : ℕ) → AreIntegers D f is
+    → (greatest_slope f.heights is ≤ c → BeginsAbove D f c) × (BeginsAbove D f c → greatest_slope f.heights is ≤ c)
+
+abbrev pub ReducedNormalized : Type 0
+ReducedNormalized = (w : Web) (d : ℕ) (n : ℤ) (f : Family ℤ) → IsGraded w → length w.heights ≡ length w.points → pos 0 ≤ℤ n
+    → IsReducedFamily wholes w (no_legs w) d n f → IsNormalized n f
 
 abbrev pub MismatchFirst : Type 0
 MismatchFirst = (D : ℕ) (N : ℤ) (f : Family ℤ) (v : List ℤ) (n : ℤ) → IsNormalized (pos 1) f
