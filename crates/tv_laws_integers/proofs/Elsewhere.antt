@@ -37,7 +37,7 @@ zero_class_is (x ∷ v) h =
 zeros-low : (hs : List ℤ) (m : ℕ) → degree_of hs (zeros m) ≤ℤ pos 0
 zeros-low hs m = let e = degree_zero hs m in omega (arith, ints)
 
-katz-zero_unit : (hs : List ℤ) (is : List Integer) (m : ℕ) → katz hs is (zeros m) (pos 0) ≡ pos 1
+pub katz-zero_unit : (hs : List ℤ) (is : List Integer) (m : ℕ) → katz hs is (zeros m) (pos 0) ≡ pos 1
 katz-zero_unit hs is m = unit_below_one hs is (zeros m) (pos 0) (zeros-low hs m) ∙ unit-one (place hs (zeros m) (pos 0)) (record { degree = degree_zero hs m; class = zero_class-zeros m; exponent = refl })
 
 katz-zero_none : (hs : List ℤ) (is : List Integer) (m : ℕ) (n : ℤ) → n ≢ pos 0 → katz hs is (zeros m) n ≡ pos 0
