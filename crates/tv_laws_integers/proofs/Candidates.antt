@@ -148,5 +148,5 @@ module _ (D : ℕ) (N : ℤ) (f : Family ℤ) (normal : IsNormalized N f) where
         let other = (candidate v second).1 in
         let up = one.least in
         has_sum (one.count + other.count) (plus u v) (omega arith) (all-contains (λ w. (t : List ℤ) → Contains (sums other.count (positive_classes f) f.heights) t → Contains (sums (one.count + other.count) (positive_classes f) f.heights) (plus w t)) (sums one.count (positive_classes f) f.heights) u (sums_add f.heights (positive_classes f) positive_each other.count one.count) one.there v other.there) most;
-    whole = λ v there up most. has_sum 1 v (omega arith) (sum_of_one f.heights (positive_classes f) positive_each v (contains-filter (λ w. int_lt (pos 0) (degree_of f.heights w)) v (classes f.rows) there (int_lt-true (pos 0) (degree_of f.heights v) up))) most;
+    whole = λ v there class. has_sum 1 v (omega arith) (sum_of_one f.heights (positive_classes f) positive_each v (contains-filter (λ w. int_lt (pos 0) (degree_of f.heights w)) v (classes f.rows) there (int_lt-true (pos 0) (degree_of f.heights v) class.positive.degree))) class.within;
   }

@@ -100,7 +100,7 @@ module _ (D : ℕ) (f : Family ℤ) (vs : List (List ℤ)) (closed : IsClosedLis
       not_found x e (inl zero_class) = none (inl (rw (sym (found_class v f.rows x e) ∙ zero_class) (zero_class-zeros (length f.heights))))
       not_found x e (inr positive) =
           let same = found_class v f.rows x e in
-          none (inr (closed.whole v (rw same at (found_all (λ y. Contains (classes f.rows) y.class) v f.rows x listed_rows e)) (rw same at positive.degree) within))
+          none (inr (closed.whole v (rw same at (found_all (λ y. Contains (classes f.rows) y.class) v f.rows x listed_rows e)) (record { positive = rw same at positive; within = within })))
 
       found : (x : Option (Row ℤ)) → find v f.rows ≡ x → series_coefficient wholes n x ≡ pos 0
       found None e = refl

@@ -1,8 +1,8 @@
 -- Lists of classes from which the integers of a family can be read.
 --
 -- IsClassTo D hs v    == the class has an entry for each height and a degree from 1 to D
--- IsClosedList D f vs == such classes, in order: with any two of them their sum, where its degree is at most D, and each class of the
---                        family that has a degree from 1 to D
+-- IsClosedList D f vs == such classes, in order: with any two of them their sum, where its degree is at most D, and each class
+--                        of the family that has a degree from 1 to D
 -- IsListed vs i       == the class of the integer is one of the list
 use Rattle.std.specs.Prelude.{Contains, ℕ, ℤ, pos, ◌≤ℤ◌, ◌<ℤ◌, List}
 use Rattle.std.specs.List.{AllByRecursion}
@@ -21,7 +21,7 @@ pub record IsClosedList (D : ℕ) (f : Family ℤ) (vs : List (List ℤ)) : Type
   pub each : AllByRecursion (IsClassTo D f.heights) vs
   pub rises : ClassesRise f.heights vs
   pub sums : (u v : List ℤ) → Contains vs u → Contains vs v → degree_of f.heights (plus u v) ≤ℤ pos D → Contains vs (plus u v)
-  pub whole : (v : List ℤ) → Contains (classes f.rows) v → pos 0 <ℤ degree_of f.heights v → degree_of f.heights v ≤ℤ pos D → Contains vs v
+  pub whole : (v : List ℤ) → Contains (classes f.rows) v → IsClassTo D f.heights v → Contains vs v
 
 abbrev pub IsListed : List (List ℤ) → Integer → Type 0
 IsListed vs i = Contains vs i.class

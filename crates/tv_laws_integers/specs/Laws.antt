@@ -1,19 +1,21 @@
 -- What is true of the integers of a family, as laws.
 --
--- IntegersAre    == what is read off a normalized family class by class, over the sums of its classes, are its integers
--- IntegersOnly   == a family has at most one list of integers to a degree
--- OnlyWhereTheyBegin == nor do two lists of integers differ, in order and to that degree, that have one product where their own integers begin
--- IntegersGoOn   == over any closed list of classes what was begun goes on to the integers, and the classes that were read keep their product
--- AgreeEverywhere == where product and normalized family agree through N at each class of a closed list, they do at every class of
---                   degree at most D
--- GoesOn D f read back is == the integers `is` and what is then read of `back` are the integers of the family, and the product keeps its
---                   values at the classes of `read`
--- SlopeOfSeries  == the greatest slope of the integers is the least c such that each series begins at - c * degree or above: it is known
---                   before the first integer
--- ReducedNormalized == a reduced family of a graded web with a height for each point and all open edges empty is normalized
--- MismatchFirst  == a mismatch of a normalized family is the first place at which it differs from the product over what is read off it
--- MismatchOnly   == a family has at most one mismatch
--- MismatchSeen   == it is seen as soon as the classes up to its own are read
+-- IntegersAre        == what is read off a normalized family class by class, over the sums of its classes, are its integers
+-- IntegersOnly       == a family has at most one list of integers to a degree
+-- OnlyWhereTheyBegin == two lists of integers to a degree, in order, are one where their products have one value at the places
+--                       where the integers of both begin
+-- GoesOn D f read back is == the integers `is` with what is then read of `back` are the integers of the family, and the product
+--                       keeps its values at the classes that were read
+-- IntegersGoOn       == so it is over any closed list of classes
+-- AgreeEverywhere    == where product and normalized family agree through N at each class of a closed list, they do at every
+--                       class of degree at most D
+-- SlopeOfSeries      == the greatest slope of the integers is the least c such that each series begins at - c * degree or above;
+--                       so it is known before the first integer
+-- ReducedNormalized  == a reduced family of a graded web with a height for each point and all open edges empty is normalized
+-- MismatchFirst      == a mismatch of a normalized family is the first place at which it differs from the product over what is
+--                       read off it
+-- MismatchOnly       == a family has at most one mismatch
+-- MismatchSeen       == it is seen as soon as the classes up to its own are read
 use Rattle.std.specs.Prelude.{◌≡◌, Contains, ℕ, ◌≤◌, ℤ, pos, ◌≤ℤ◌, List, ◌++◌, length}
 use Rattle.std.specs.List.{AllByRecursion}
 use Rattle.tv_ring.specs.Whole.{wholes}
@@ -48,12 +50,14 @@ IntegersGoOn = (D : ℕ) (f : Family ℤ) (read back : List (List ℤ)) (is : Li
     → IsClosedList D f (read ++ back) → IsBegun D f read is → GoesOn D f read back is
 
 abbrev pub AgreeEverywhere : Type 0
-AgreeEverywhere = (D : ℕ) (N : ℤ) (f : Family ℤ) (vs : List (List ℤ)) (is : List Integer) → IsNormalized N f → IsClosedList D f vs
-    → AllByRecursion (IsListed vs) is → AllByRecursion (AgreesThrough N f is) vs → (v : List ℤ) (n : ℤ) → IsCompared D N f v n → Agrees f is v n
+AgreeEverywhere = (D : ℕ) (N : ℤ) (f : Family ℤ) (vs : List (List ℤ)) (is : List Integer)
+    → IsNormalized N f → IsClosedList D f vs → AllByRecursion (IsListed vs) is
+    → AllByRecursion (AgreesThrough N f is) vs → (v : List ℤ) (n : ℤ) → IsCompared D N f v n → Agrees f is v n
 
 abbrev pub SlopeOfSeries : Type 0
 SlopeOfSeries = (D : ℕ) (f : Family ℤ) (is : List Integer) (c : ℕ) → AreIntegers D f is
-    → (greatest_slope f.heights is ≤ c → BeginsAbove D f c) × (BeginsAbove D f c → greatest_slope f.heights is ≤ c)
+    → (greatest_slope f.heights is ≤ c → BeginsAbove D f c)
+    × (BeginsAbove D f c → greatest_slope f.heights is ≤ c)
 
 abbrev pub ReducedNormalized : Type 0
 ReducedNormalized = (w : Web) (d : ℕ) (n : ℤ) (f : Family ℤ) → IsGraded w → length w.heights ≡ length w.points → pos 0 ≤ℤ n
@@ -61,10 +65,12 @@ ReducedNormalized = (w : Web) (d : ℕ) (n : ℤ) (f : Family ℤ) → IsGraded 
 
 abbrev pub MismatchFirst : Type 0
 MismatchFirst = (D : ℕ) (N : ℤ) (f : Family ℤ) (v : List ℤ) (n : ℤ) → IsNormalized (pos 1) f
-    → (HasMismatch D N f v n → IsMismatch D N f (integers D f) v n) × (IsMismatch D N f (integers D f) v n → HasMismatch D N f v n)
+    → (HasMismatch D N f v n → IsMismatch D N f (integers D f) v n)
+    × (IsMismatch D N f (integers D f) v n → HasMismatch D N f v n)
 
 abbrev pub MismatchOnly : Type 0
-MismatchOnly = (D : ℕ) (N : ℤ) (f : Family ℤ) (v u : List ℤ) (n m : ℤ) → HasMismatch D N f v n → HasMismatch D N f u m → (v ≡ u) × (n ≡ m)
+MismatchOnly = (D : ℕ) (N : ℤ) (f : Family ℤ) (v u : List ℤ) (n m : ℤ)
+    → HasMismatch D N f v n → HasMismatch D N f u m → (v ≡ u) × (n ≡ m)
 
 abbrev pub MismatchSeen : Type 0
 MismatchSeen = (D : ℕ) (N : ℤ) (f : Family ℤ) (read back : List (List ℤ)) (is : List Integer) (v : List ℤ) (n : ℤ) → pos 1 ≤ℤ N

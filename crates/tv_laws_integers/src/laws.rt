@@ -1,6 +1,7 @@
 //! Laws of the integers of a family: each function does nothing, and its contract is a law.
 
-ghost use Rattle.tv_laws_integers.specs.Laws.{IntegersAre, IntegersOnly, OnlyWhereTheyBegin, IntegersGoOn, AgreeEverywhere, SlopeOfSeries, ReducedNormalized, MismatchFirst, MismatchOnly, MismatchSeen};
+ghost use Rattle.tv_laws_integers.specs.Laws.{IntegersAre, IntegersOnly, OnlyWhereTheyBegin, IntegersGoOn, AgreeEverywhere};
+ghost use Rattle.tv_laws_integers.specs.Laws.{SlopeOfSeries, ReducedNormalized, MismatchFirst, MismatchOnly, MismatchSeen};
 
 /// In a family whose class zero has the series 1 and whose other classes have degrees of at least 1, what is read off class by
 /// class, and in each from the greatest genus down, are its integers: at every class of degree at most D, Katz's product over

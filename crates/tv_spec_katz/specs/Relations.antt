@@ -5,12 +5,12 @@
 --                          family of reduced series
 -- ComesLater hs i j     == the class of i comes after that of j, or it is the same class and i has the lesser genus
 -- IsInteger D hs i      == its class is positive and of degree at most D, and its value is not 0
--- AreOrdered D hs is    == each is such an integer and comes later than all that follow it: the last one is the first of the list,
---                          and no two have one class and genus
+-- AreOrdered D hs is    == each is such an integer and comes later than all that follow it: the last one is the first of the
+--                          list, and no two have one class and genus
 -- AreIntegers D f is    == the integers of the family to degree D: so ordered, and Katz's product over them and the family have
 --                          one value at every class of degree at most D, also 0 or below, at every exponent at most 1
--- HasMismatch D N f v n == Katz's product over the integers of the family, and the family, differ at v and n, at no earlier class of
---                          degree at most D through N, and at no lesser exponent of v
+-- HasMismatch D N f v n == at v and n Katz's product over the integers of the family differs from the family: at no earlier
+--                          class of degree at most D through N, and at no lesser exponent of v
 use Rattle.std.specs.Prelude.{◌≡◌, ◌≢◌, ◌⊎◌, ⊤, ℕ, ◌<◌, ℤ, pos, ◌≤ℤ◌, ◌<ℤ◌, List, [], ◌∷◌, length}
 use Rattle.std.specs.List.{AllByRecursion}
 use Rattle.tv_ring.specs.Whole.{wholes}
