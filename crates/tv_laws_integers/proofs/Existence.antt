@@ -91,3 +91,8 @@ module _ (D : ℕ) (f : Family ℤ) where
 
   pub are_integers : (vs : List (List ℤ)) → IsClosedList D f vs → IsNormalized (pos 1) f → AreIntegers D f (read_classes f [] vs)
   are_integers vs closed normal = extends [] vs closed [] (record { ordered = tt; listed = tt; agrees = tt }) normal
+
+  -- the integers stand at classes of each closed list alone
+  pub integers_listed : (vs : List (List ℤ)) → IsClosedList D f vs → IsNormalized (pos 1) f → (is : List Integer) → AreIntegers D f is → AllByRecursion (IsListed vs) is
+  integers_listed vs closed normal is are =
+      rw (only D f is (read_classes f [] vs) are (are_integers vs closed normal)) (all_listed [] vs closed [] (record { ordered = tt; listed = tt; agrees = tt }))

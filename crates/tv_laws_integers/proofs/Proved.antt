@@ -1,9 +1,9 @@
 -- The laws, from their parts.
 use Rattle.std.specs.Prelude.{pos}
 use Rattle.tv_spec_katz.specs.Integers.{integers, candidates}
-use Rattle.tv_laws_integers.specs.Laws.{IntegersAre, OnlyWhereTheyBegin, IntegersGoOn, AgreeEverywhere, SlopeOfSeries, ReducedNormalized, MismatchFirst, MismatchSeen}
+use Rattle.tv_laws_integers.specs.Laws.{IntegersAre, OnlyWhereTheyBegin, IntegersListed, IntegersGoOn, AgreeEverywhere, SlopeOfSeries, ReducedNormalized, MismatchFirst, MismatchSeen}
 use Rattle.tv_laws_integers.proofs.Candidates.{candidates_closed}
-use Rattle.tv_laws_integers.proofs.Existence.{agrees_through, kept, extends, are_integers}
+use Rattle.tv_laws_integers.proofs.Existence.{agrees_through, kept, extends, are_integers, integers_listed as listed_integers}
 use Rattle.tv_laws_integers.proofs.Only.{only_at}
 use Rattle.tv_laws_integers.proofs.Slopes.{slopes-most, slopes-least, integers_within, series_within}
 use Rattle.tv_laws_integers.proofs.Normalized.{reduced_normalized}
@@ -15,6 +15,9 @@ integers_are D f normal = are_integers D f (candidates D f) (candidates_closed D
 
 pub only_where_they_begin : OnlyWhereTheyBegin
 only_where_they_begin D hs is js first second own other = only_at hs D is js first second own other
+
+pub integers_listed : IntegersListed
+integers_listed D f vs is normal closed are = listed_integers D f vs closed normal is are
 
 pub integers_go_on : IntegersGoOn
 integers_go_on D f read back is normal closed begun = record {

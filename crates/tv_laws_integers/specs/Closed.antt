@@ -4,7 +4,7 @@
 -- IsClosedList D f vs == such classes, in order: with any two of them their sum, where its degree is at most D, and each class
 --                        of the family that has a degree from 1 to D
 -- IsListed vs i       == the class of the integer is one of the list
-use Rattle.std.specs.Prelude.{Contains, ℕ, ℤ, pos, ◌≤ℤ◌, ◌<ℤ◌, List}
+use Rattle.std.specs.Prelude.{Contains, ℕ, ℤ, pos, ◌≤ℤ◌, List}
 use Rattle.std.specs.List.{AllByRecursion}
 use Rattle.tv_spec_plane.specs.Web.{degree_of}
 use Rattle.tv_spec_boxes.specs.Assignments.{plus}

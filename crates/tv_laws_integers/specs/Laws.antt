@@ -4,6 +4,7 @@
 -- IntegersOnly       == a family has at most one list of integers to a degree
 -- OnlyWhereTheyBegin == two lists of integers to a degree, in order, are one where their products have one value at the places
 --                       where the integers of both begin
+-- IntegersListed     == the classes of the integers of a normalized family are among those of every closed list
 -- GoesOn D f read back is == the integers `is` with what is then read of `back` are the integers of the family, and the product
 --                       keeps its values at the classes that were read
 -- IntegersGoOn       == so it is over any closed list of classes
@@ -40,6 +41,10 @@ IntegersOnly = (D : ℕ) (f : Family ℤ) (is js : List Integer) → AreIntegers
 abbrev pub OnlyWhereTheyBegin : Type 0
 OnlyWhereTheyBegin = (D : ℕ) (hs : List ℤ) (is js : List Integer) → AreOrdered D hs is → AreOrdered D hs js
     → AllByRecursion (AgreeAt hs is js) is → AllByRecursion (AgreeAt hs is js) js → is ≡ js
+
+abbrev pub IntegersListed : Type 0
+IntegersListed = (D : ℕ) (f : Family ℤ) (vs : List (List ℤ)) (is : List Integer) → IsNormalized (pos 1) f → IsClosedList D f vs
+    → AreIntegers D f is → AllByRecursion (IsListed vs) is
 
 pub record GoesOn (D : ℕ) (f : Family ℤ) (read back : List (List ℤ)) (is : List Integer) : Type 0 where
   pub are : AreIntegers D f (read_classes f is back)

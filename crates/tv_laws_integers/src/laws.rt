@@ -1,33 +1,43 @@
-//! Laws of the integers of a family: each function does nothing, and its contract is a law.
+//! Laws of the integers of a family: each function does nothing, and its contract is a law. A family is normalized where class
+//! zero has the series 1 and every other class a degree of at least 1. A list of classes of degree 1 to D is closed where it is
+//! in order and has the classes of the family and, with any two of its classes, their sum.
 
-ghost use Rattle.tv_laws_integers.specs.Laws.{IntegersAre, IntegersOnly, OnlyWhereTheyBegin, IntegersGoOn, AgreeEverywhere};
-ghost use Rattle.tv_laws_integers.specs.Laws.{SlopeOfSeries, ReducedNormalized, MismatchFirst, MismatchOnly, MismatchSeen};
+ghost use Rattle.tv_laws_integers.specs.Laws.{ReducedNormalized, IntegersAre, IntegersOnly, OnlyWhereTheyBegin, IntegersListed};
+ghost use Rattle.tv_laws_integers.specs.Laws.{IntegersGoOn, AgreeEverywhere, SlopeOfSeries, MismatchFirst, MismatchOnly, MismatchSeen};
 
-/// In a family whose class zero has the series 1 and whose other classes have degrees of at least 1, what is read off class by
-/// class, and in each from the greatest genus down, are its integers: at every class of degree at most D, Katz's product over
-/// them and the family agree at every exponent at most 1.
+/// The reduced family of a graded web that has a height for each point and no diagrams on its open edges is normalized.
+pub fn reduced_is_normalized()
+    ensures { ReducedNormalized }
+{}
+
+/// What is read off a normalized family class by class, and in each class from the greatest genus down, are its integers: at
+/// every class of degree at most D, Katz's product over them and the family agree at every exponent at most 1.
 pub fn integers_are()
     ensures { IntegersAre }
 {}
 
-/// No other list has that, of integers other than 0 over classes of degree 1 to D, listed from the last class and the least genus
+/// No other list has that, of integers other than 0 at classes of degree 1 to D, listed from the last class and the least genus
 /// on.
 pub fn integers_only()
     ensures { IntegersOnly }
 {}
 
-/// Nor do two such lists differ that have one product at the classes of their own integers, at the exponents 1 - genus.
+/// Two such lists are the same where their products agree at the classes of the integers of both, at the exponents 1 - genus.
 pub fn only_where_they_begin()
     ensures { OnlyWhereTheyBegin }
 {}
 
-/// They are read over any list of classes, in order, that has those of the family and with two classes their sum; what later
-/// classes add changes no product of earlier ones.
+/// The integers stand at classes of each closed list alone.
+pub fn integers_listed()
+    ensures { IntegersListed }
+{}
+
+/// Over a closed list what was read of its first classes goes on to the integers, and these classes keep their product.
 pub fn integers_go_on()
     ensures { IntegersGoOn }
 {}
 
-/// Where product and family agree through N at the classes of such a list, they agree at all classes of degree at most D.
+/// Where product and family agree through N at the classes of a closed list, they do at all classes of degree at most D.
 pub fn agree_everywhere()
     ensures { AgreeEverywhere }
 {}
@@ -38,23 +48,18 @@ pub fn slope_of_series()
     ensures { SlopeOfSeries }
 {}
 
-/// The reduced family of a graded web that has a height for each point and no diagrams on its open edges is such a family.
-pub fn reduced_is_normalized()
-    ensures { ReducedNormalized }
-{}
-
 /// The mismatch of a family is the first class of degree at most D, and in it the first exponent at most N, at which it differs
 /// from the product over what is read off it.
 pub fn mismatch_first()
     ensures { MismatchFirst }
 {}
 
-/// There is one such place at most.
+/// A family has at most one mismatch.
 pub fn mismatch_only()
     ensures { MismatchOnly }
 {}
 
-/// It is found where classes are read in order and compared through N, at the first difference.
+/// Where the classes of a closed list are read in order and compared through N, it is the first difference.
 pub fn mismatch_seen()
     ensures { MismatchSeen }
 {}
