@@ -39,7 +39,7 @@ module _ (f : Family ℤ) (P : List ℤ → Type 0) where
   with_integer_of : (v : List ℤ) (g : ℕ) (z : ℤ) (is : List Integer) → P v → AllByRecursion Of is → AllByRecursion Of (with_integer v g z is)
   with_integer_of v g z is p all = bool_cases (int_eq z (pos 0)) (λ b. rw b all) (λ b. rw b (p, all))
 
-  read_genus_of : (v : List ℤ) (g : ℕ) (is : List Integer) → P v → AllByRecursion Of is → AllByRecursion Of (read_genus f v g is)
+  pub read_genus_of : (v : List ℤ) (g : ℕ) (is : List Integer) → P v → AllByRecursion Of is → AllByRecursion Of (read_genus f v g is)
   read_genus_of v g is p all = with_integer_of v g (new_integer f v g is) is p all
 
   read_down_of : (v : List ℤ) (g : ℕ) (is : List Integer) → P v → AllByRecursion Of is → AllByRecursion Of (read_down f v g is)
@@ -77,7 +77,7 @@ pub natural-is : (z : ℤ) → pos 0 ≤ℤ z → z ≡ pos (natural z)
 natural-is (pos n) h = refl
 natural-is (negsuc n) h = absurd (omega (arith, ints))
 
-one-less : (n : ℤ) → n ≤ℤ pos 1 → pos 1 -ℤ pos (natural (pos 1 -ℤ n)) ≡ n
+pub one-less : (n : ℤ) → n ≤ℤ pos 1 → pos 1 -ℤ pos (natural (pos 1 -ℤ n)) ≡ n
 one-less n h = let e = natural-is (pos 1 -ℤ n) (omega (arith, ints)) in omega (arith, ints)
 
 -- w is a slope for genera of at most w + 1

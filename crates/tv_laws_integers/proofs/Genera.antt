@@ -35,7 +35,7 @@ past_below hs v g k h is all = all-onto (IsPast hs v g) (IsPast hs v k) one is a
     one j (inl a) = inl a
     one j (inr a) = let more = a.1 in inr (a.0, omega arith)
 
-sooner_below : (hs v : List ℤ) (g : ℕ) (u : List ℤ) (n : ℤ) → IsSooner hs v (suc g) u n → IsSooner hs v g u n
+pub sooner_below : (hs v : List ℤ) (g : ℕ) (u : List ℤ) (n : ℤ) → IsSooner hs v (suc g) u n → IsSooner hs v g u n
 sooner_below hs v g u n (inl a) = inl a
 sooner_below hs v g u n (inr a) = let less = a.1 in inr (a.0, omega (arith, ints))
 
@@ -72,7 +72,7 @@ module _ (D : ℕ) (f : Family ℤ) where
         same = λ u n h. unchanged f.heights i is u n up h;
       }
 
-  step : (v : List ℤ) (g : ℕ) (is : List Integer) → IsClassTo D f.heights v → AreOrdered D f.heights is → AllByRecursion (IsPast f.heights v g) is → IsStep D f v g is (read_genus f v g is)
+  pub step : (v : List ℤ) (g : ℕ) (is : List Integer) → IsClassTo D f.heights v → AreOrdered D f.heights is → AllByRecursion (IsPast f.heights v g) is → IsStep D f v g is (read_genus f v g is)
   step v g is class order past = bool_cases (int_eq (new_integer f v g is) (pos 0))
       (λ b. rw b (step_none v g is order past ((Decides-int_eq (new_integer f v g is) (pos 0)).0 b)))
       (λ b. rw b (step_some v g is class order past (λ e. let t = (Decides-int_eq (new_integer f v g is) (pos 0)).1 e in cc)))

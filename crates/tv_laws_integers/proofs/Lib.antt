@@ -12,3 +12,4 @@ pub mod Proved
 mod IntegerValues
 pub mod Normalized
 pub mod Slopes
+pub mod Steps

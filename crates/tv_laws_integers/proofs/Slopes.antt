@@ -27,7 +27,7 @@ use Rattle.tv_laws_integers.proofs.Existence.{each_integer, own_place}
 
 -- ---- the integers are within the slope of the series
 
-abbrev OwnAgrees : Family ℤ → List Integer → Integer → Type 0
+abbrev pub OwnAgrees : Family ℤ → List Integer → Integer → Type 0
 OwnAgrees f is k = Agrees f is k.class (own_exponent k)
 
 module _ (D : ℕ) (f : Family ℤ) (c : ℕ) (begins : BeginsAbove D f c) where
@@ -46,7 +46,7 @@ module _ (D : ℕ) (f : Family ℤ) (c : ℕ) (begins : BeginsAbove D f c) where
       absurd (order.0.value (omega (arith, ints))))
       (λ flat. record { positive = (positives D f.heights (i ∷ is) order).0; slope = flat })
 
-  within_by : (is : List Integer) → AreOrdered D f.heights is → AllByRecursion (OwnAgrees f is) is → AllByRecursion (IsWithinSlope f.heights c) is
+  pub within_by : (is : List Integer) → AreOrdered D f.heights is → AllByRecursion (OwnAgrees f is) is → AllByRecursion (IsWithinSlope f.heights c) is
   within_by [] order all = tt
   within_by (i ∷ is) order all =
       let rest = within_by is order.1.1 (without_last i is order all.1) in
