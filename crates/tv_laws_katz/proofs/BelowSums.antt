@@ -42,7 +42,8 @@ longer_by : (f : ℕ → ℤ) (n d m : ℕ) → m ≡ n + d → ((k : ℕ) → n
 unfolding sum_below
 longer_by f n zero m e none = let same : m ≡ n = omega (arith, e) in ap (sum_below f) same
 longer_by f n (suc d) zero e none = absurd (omega (arith, e))
-longer_by f n (suc d) (suc m) e none = omega (arith, ints, longer_by f n d m (omega arith) (λ k l h. none k l (omega arith)), none m (omega arith) (omega arith))
+longer_by f n (suc d) (suc m) e none =
+    omega (arith, ints, longer_by f n d m (omega arith) (λ k l h. none k l (omega arith)), none m (omega arith) (omega arith))
 
 pub sum_below-longer : (f : ℕ → ℤ) (n m : ℕ) → n ≤ m → ((k : ℕ) → n ≤ k → k < m → f k ≡ pos 0) → sum_below f m ≡ sum_below f n
 sum_below-longer f n m h none = longer_by f n (m - n) m (omega arith) none
@@ -54,7 +55,9 @@ sum_below-last f n none = omega (arith, ints, none)
 pub sum_below-first : (f : ℕ → ℤ) (n : ℕ) → ((k : ℕ) → k < n → f (suc k) ≡ pos 0) → sum_below f (suc n) ≡ f 0
 sum_below-first f n none = omega (arith, ints, sum_below-front f n, sum_below-none (λ k. f (suc k)) n none)
 
-pub sum_below-swap : (f : ℕ → ℕ → ℤ) (m n : ℕ) → sum_below (λ j. sum_below (f j) n) m ≡ sum_below (λ k. sum_below (λ j. f j k) m) n
+pub sum_below-swap : (f : ℕ → ℕ → ℤ) (m n : ℕ) →
+    sum_below (λ j. sum_below (f j) n) m ≡ sum_below (λ k. sum_below (λ j. f j k) m) n
 unfolding sum_below
 sum_below-swap f zero n = omega (arith, ints, sum_below-none (λ k. pos 0) n (λ k h. refl))
-sum_below-swap f (suc m) n = ap (λ s. s +ℤ sum_below (f m) n) (sum_below-swap f m n) ∙ omega (arith, ints, sum_below-add (λ k. sum_below (λ j. f j k) m) (f m) n)
+sum_below-swap f (suc m) n = ap (λ s. s +ℤ sum_below (f m) n) (sum_below-swap f m n) ∙
+    omega (arith, ints, sum_below-add (λ k. sum_below (λ j. f j k) m) (f m) n)

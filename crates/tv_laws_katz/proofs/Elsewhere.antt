@@ -28,11 +28,13 @@ length-difference [] v = refl
 length-difference (x ∷ u) [] = refl
 length-difference (x ∷ u) (y ∷ v) = ap suc (length-difference u v)
 
-pub degree-difference : (hs u v : List ℤ) → length u ≡ length hs → length v ≡ length hs → degree_of hs (class_difference u v) ≡ degree_of hs u -ℤ degree_of hs v
+pub degree-difference : (hs u v : List ℤ) → length u ≡ length hs → length v ≡ length hs →
+    degree_of hs (class_difference u v) ≡ degree_of hs u -ℤ degree_of hs v
 degree-difference [] u v e f = refl
 degree-difference (h ∷ hs) [] v e f = absurd (omega (arith, e))
 degree-difference (h ∷ hs) (x ∷ u) [] e f = absurd (omega (arith, f))
-degree-difference (h ∷ hs) (x ∷ u) (y ∷ v) e f = omega (arith, ints, mul-sub h x y, degree-difference hs u v (omega arith) (omega arith))
+degree-difference (h ∷ hs) (x ∷ u) (y ∷ v) e f =
+    omega (arith, ints, mul-sub h x y, degree-difference hs u v (omega arith) (omega arith))
 
 pub record AddsTo (hs : List ℤ) (D : ℕ) (S : List ℤ → Type 0) (i : Integer) : Type 0 where
   pub entries : length i.class ≡ length hs
@@ -43,18 +45,22 @@ abbrev InSet : List ℤ → ℕ → (List ℤ → Type 0) → Place → Type 0
 InSet hs D S p = length p.class ≡ length hs → degree_of hs p.class ≤ℤ pos D → S p.class
 
 -- the class of the factor is that of its integer
-stays-in : (hs : List ℤ) (D : ℕ) (S : List ℤ → Type 0) (i : Integer) → AddsTo hs D S i → (f : Factor) → f.at.class ≡ i.class → IsClosed (InSet hs D S) f
+stays-in : (hs : List ℤ) (D : ℕ) (S : List ℤ → Type 0) (i : Integer) → AddsTo hs D S i → (f : Factor) → f.at.class ≡ i.class →
+    IsClosed (InSet hs D S) f
 stays-in hs D S i adds f same p left entries most =
     let shorter : length (class_difference p.class f.at.class) ≡ length hs = length-difference p.class f.at.class ∙ entries in
     let lower : degree_of hs (class_difference p.class i.class) ≡ degree_of hs p.class -ℤ degree_of hs i.class = degree-difference hs p.class i.class entries adds.entries in
     let here : degree_of hs (class_difference p.class f.at.class) ≤ℤ pos D = rw same (omega (arith, ints, adds.positive)) in
     adds.sums p.class entries most (rw same at (left shorter here))
 
-factors-stay : (hs : List ℤ) (D : ℕ) (S : List ℤ → Type 0) (J : ℕ) (is : List Integer) → AllByRecursion (AddsTo hs D S) is → AllByRecursion (IsClosed (InSet hs D S)) (factors hs J is)
+factors-stay : (hs : List ℤ) (D : ℕ) (S : List ℤ → Type 0) (J : ℕ) (is : List Integer) → AllByRecursion (AddsTo hs D S) is →
+    AllByRecursion (IsClosed (InSet hs D S)) (factors hs J is)
 factors-stay hs D S J is adds = all-flat_map (AddsTo hs D S) (IsClosed (InSet hs D S)) (λ i. factors_by hs i.genus J i)
     (λ i add. all-onto (IsFactorOf hs i) (IsClosed (InSet hs D S)) (λ f of. stays-in hs D S i add f (ap (λ (x : Factor). x.at.class) of.is)) (factors_by hs i.genus J i) (factors-are hs i.genus J i refl)) is adds
 
-pub elsewhere : (hs : List ℤ) (D : ℕ) (S : List ℤ → Type 0) (is : List Integer) (v : List ℤ) (n : ℤ) → ((u : List ℤ) → length u ≡ length hs → is_zero_class u ≡ true → S u) → AllByRecursion (AddsTo hs D S) is → length v ≡ length hs → degree_of hs v ≤ℤ pos D → (S v → ⊥) → katz hs is v n ≡ pos 0
+pub elsewhere : (hs : List ℤ) (D : ℕ) (S : List ℤ → Type 0) (is : List Integer) (v : List ℤ) (n : ℤ) →
+    ((u : List ℤ) → length u ≡ length hs → is_zero_class u ≡ true → S u) → AllByRecursion (AddsTo hs D S) is →
+    length v ≡ length hs → degree_of hs v ≤ℤ pos D → (S v → ⊥) → katz hs is v n ≡ pos 0
 unfolding katz
 elsewhere hs D S is v n none adds entries most out =
     ap (λ z. power_sign (unsigned_abs n) *ℤ z) (outside (InSet hs D S) (λ p one e l. none p.class e one.class) (factors hs (factor_bound hs is v n) is) (factors-stay hs D S (factor_bound hs is v n) is adds) (place hs v n) (λ s. out (s entries most))) ∙
@@ -75,4 +81,6 @@ signed-unit hs v (negsuc n) =
 
 pub unit_below_one : UnitBelowOne
 unfolding katz
-unit_below_one hs is v n low = ap (λ z. power_sign (unsigned_abs n) *ℤ z) (product-low (factors hs (factor_bound hs is v n) is) (place hs v n) low) ∙ signed-unit hs v n
+unit_below_one hs is v n low =
+    ap (λ z. power_sign (unsigned_abs n) *ℤ z) (product-low (factors hs (factor_bound hs is v n) is) (place hs v n) low) ∙
+    signed-unit hs v n

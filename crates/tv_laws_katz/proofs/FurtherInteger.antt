@@ -32,11 +32,13 @@ pub record IsFactorOf (hs : List ℤ) (i : Integer) (f : Factor) : Type 0 where
 
 zero-are : (hs : List ℤ) (J : ℕ) (i : Integer) → AllByRecursion (IsFactorOf hs i) (genus_zero hs J i)
 zero-are hs zero i = tt
-zero-are hs (suc J) i = (record { exponent = pos (suc J); power = pos (suc J) *ℤ i.value; is = refl; least = omega (arith, ints) }, zero-are hs J i)
+zero-are hs (suc J) i =
+    (record { exponent = pos (suc J); power = pos (suc J) *ℤ i.value; is = refl; least = omega (arith, ints) }, zero-are hs J i)
 
 higher-are : (hs : List ℤ) (n : ℕ) (i : Integer) → n ≤ 2 * i.genus - 1 → AllByRecursion (IsFactorOf hs i) (higher_below hs n i)
 higher-are hs zero i h = tt
-higher-are hs (suc k) i h = (record { exponent = higher_exponent i k; power = higher_power i k; is = refl; least = omega (arith, ints) }, higher-are hs k i (omega arith))
+higher-are hs (suc k) i h =
+    (record { exponent = higher_exponent i k; power = higher_power i k; is = refl; least = omega (arith, ints) }, higher-are hs k i (omega arith))
 
 pub factors-are : (hs : List ℤ) (g J : ℕ) (i : Integer) → i.genus ≡ g → AllByRecursion (IsFactorOf hs i) (factors_by hs g J i)
 factors-are hs zero J i e = zero-are hs J i
@@ -45,12 +47,14 @@ factors-are hs (suc g) J i e = higher-are hs (2 * i.genus - 1) i (omega arith)
 pub same-degree : (hs : List ℤ) (i : Integer) (f : Factor) → IsFactorOf hs i f → f.at.degree ≡ degree_of hs i.class
 same-degree hs i f of = ap (λ (x : Factor). x.at.degree) of.is
 
-factors-high : (hs : List ℤ) (g J : ℕ) (i : Integer) (d : ℤ) → i.genus ≡ g → IsPositive hs i → d ≤ℤ degree_of hs i.class → AllByRecursion (IsHigh d) (factors_by hs g J i)
+pub factors-high : (hs : List ℤ) (g J : ℕ) (i : Integer) (d : ℤ) → i.genus ≡ g → IsPositive hs i → d ≤ℤ degree_of hs i.class →
+    AllByRecursion (IsHigh d) (factors_by hs g J i)
 factors-high hs g J i d e positive h = all-onto (IsFactorOf hs i) (IsHigh d)
     (λ f of. record { rising = omega (arith, ints, same-degree hs i f of); high = omega (arith, ints, same-degree hs i f of) }) (factors_by hs g J i) (factors-are hs g J i e)
 
 -- the lists of factors of the two products, for one J that is large enough for both
-katz-further : (hs : List ℤ) (i : Integer) (is : List Integer) (v : List ℤ) (n : ℤ) → AllByRecursion (IsPositive hs) (i ∷ is) → degree_of hs v ≤ℤ degree_of hs i.class →
+katz-further : (hs : List ℤ) (i : Integer) (is : List Integer) (v : List ℤ) (n : ℤ) → AllByRecursion (IsPositive hs) (i ∷ is) →
+    degree_of hs v ≤ℤ degree_of hs i.class →
     (J : ℕ) × (katz hs (i ∷ is) v n ≡ katz hs is v n +ℤ (power_sign (unsigned_abs n) *ℤ lead (factors_by hs i.genus (suc J) i) (place hs v n)))
 katz-further hs i is v n positive h =
     let J = factor_bound hs (i ∷ is) v n + factor_bound hs is v n in
@@ -74,10 +78,13 @@ entries-differ (x ∷ u) (y ∷ v) before e =
       | inr rest ↦ entries-differ u v rest.1 parts.1
     ]
 
-earlier-apart : (hs : List ℤ) (i : Integer) (v : List ℤ) (n : ℤ) → IsEarlier hs i v n → (f : Factor) → IsFactorOf hs i f → IsUnit (difference (place hs v n) f.at) → ⊥
+earlier-apart : (hs : List ℤ) (i : Integer) (v : List ℤ) (n : ℤ) → IsEarlier hs i v n → (f : Factor) → IsFactorOf hs i f →
+    IsUnit (difference (place hs v n) f.at) → ⊥
 earlier-apart hs i v n (inl (inl less)) f of is = absurd (omega (arith, ints, is.degree, same-degree hs i f of))
-earlier-apart hs i v n (inl (inr same)) f of is = entries-differ v i.class same.1 (ap (λ (x : Factor). is_zero_class (class_difference v x.at.class)) (sym of.is) ∙ is.class)
-earlier-apart hs i v n (inr own) f of is = absurd (omega (arith, ints, is.exponent, ap (λ (x : Factor). x.at.exponent) of.is, of.least, own.1))
+earlier-apart hs i v n (inl (inr same)) f of is =
+    entries-differ v i.class same.1 (ap (λ (x : Factor). is_zero_class (class_difference v x.at.class)) (sym of.is) ∙ is.class)
+earlier-apart hs i v n (inr own) f of is =
+    absurd (omega (arith, ints, is.exponent, ap (λ (x : Factor). x.at.exponent) of.is, of.least, own.1))
 
 earlier-degree : (hs : List ℤ) (i : Integer) (v : List ℤ) (n : ℤ) → IsEarlier hs i v n → degree_of hs v ≤ℤ degree_of hs i.class
 earlier-degree hs i v n (inl (inl less)) = omega (arith, ints)
@@ -97,28 +104,39 @@ zero-class (x ∷ v) =
     let none : x -ℤ x ≡ pos 0 = omega (arith, ints) in
     rw (none, zero-class v) refl
 
-at-own : (hs : List ℤ) (i : Integer) (m : ℤ) → m ≡ own_exponent i → unit (difference (place hs i.class (own_exponent i)) (place hs i.class m)) ≡ pos 1
+at-own : (hs : List ℤ) (i : Integer) (m : ℤ) → m ≡ own_exponent i →
+    unit (difference (place hs i.class (own_exponent i)) (place hs i.class m)) ≡ pos 1
 at-own hs i m here = unit-one _ (record { degree = omega (arith, ints); class = zero-class i.class; exponent = omega (arith, ints) })
 
-apart-own : (hs : List ℤ) (i : Integer) (f : Factor) → own_exponent i <ℤ f.at.exponent → IsUnit (difference (place hs i.class (own_exponent i)) f.at) → ⊥
+apart-own : (hs : List ℤ) (i : Integer) (f : Factor) → own_exponent i <ℤ f.at.exponent →
+    IsUnit (difference (place hs i.class (own_exponent i)) f.at) → ⊥
 apart-own hs i f above is = absurd (omega (arith, ints, is.exponent))
 
 -- the first factor's part, where it stands at the place
-lead-here : (f : Factor) (fs : List Factor) (p : Place) → unit (difference p f.at) ≡ pos 1 → lead (f ∷ fs) p ≡ neg_ℤ f.power +ℤ lead fs p
-lead-here f fs p here = ap (λ z. (power_at f.power 1 *ℤ z) +ℤ lead fs p) here ∙ ap (λ z. z +ℤ lead fs p) (mul-one (power_at f.power 1) ∙ power_at-one f.power)
+lead-here : (f : Factor) (fs : List Factor) (p : Place) → unit (difference p f.at) ≡ pos 1 →
+    lead (f ∷ fs) p ≡ neg_ℤ f.power +ℤ lead fs p
+lead-here f fs p here = ap (λ z. (power_at f.power 1 *ℤ z) +ℤ lead fs p) here ∙
+    ap (λ z. z +ℤ lead fs p) (mul-one (power_at f.power 1) ∙ power_at-one f.power)
 
 -- and where it doesn't
 lead-apart : (f : Factor) (fs : List Factor) (p : Place) → (IsUnit (difference p f.at) → ⊥) → lead (f ∷ fs) p ≡ lead fs p
-lead-apart f fs p apart = omega (arith, ints, ap (λ z. power_at f.power 1 *ℤ z) (unit-none (difference p f.at) apart), *ℤ-zero (power_at f.power 1))
+lead-apart f fs p apart =
+    omega (arith, ints, ap (λ z. power_at f.power 1 *ℤ z) (unit-none (difference p f.at) apart), *ℤ-zero (power_at f.power 1))
 
-zero-lead : (hs : List ℤ) (J : ℕ) (i : Integer) → i.genus ≡ 0 → lead (genus_zero hs (suc J) i) (place hs i.class (own_exponent i)) ≡ neg_ℤ i.value
-zero-lead hs zero i e = lead-here (factor_at hs i (pos 1) (pos 1 *ℤ i.value)) [] (place hs i.class (own_exponent i)) (at-own hs i (pos 1) (omega (arith, ints))) ∙ omega (arith, ints, one-mul i.value)
-zero-lead hs (suc J) i e = lead-apart (factor_at hs i (pos (suc (suc J))) (pos (suc (suc J)) *ℤ i.value)) (genus_zero hs (suc J) i) (place hs i.class (own_exponent i))
+zero-lead : (hs : List ℤ) (J : ℕ) (i : Integer) → i.genus ≡ 0 →
+    lead (genus_zero hs (suc J) i) (place hs i.class (own_exponent i)) ≡ neg_ℤ i.value
+zero-lead hs zero i e =
+    lead-here (factor_at hs i (pos 1) (pos 1 *ℤ i.value)) [] (place hs i.class (own_exponent i)) (at-own hs i (pos 1) (omega (arith, ints))) ∙
+    omega (arith, ints, one-mul i.value)
+zero-lead hs (suc J) i e =
+    lead-apart (factor_at hs i (pos (suc (suc J))) (pos (suc (suc J)) *ℤ i.value)) (genus_zero hs (suc J) i) (place hs i.class (own_exponent i))
     (apart-own hs i (factor_at hs i (pos (suc (suc J))) (pos (suc (suc J)) *ℤ i.value)) (omega (arith, ints))) ∙ zero-lead hs J i e
 
-higher-apart : (hs : List ℤ) (n : ℕ) (i : Integer) → n ≤ 2 * i.genus - 2 → AllByRecursion (λ f. IsUnit (difference (place hs i.class (own_exponent i)) f.at) → ⊥) (higher_below hs n i)
+higher-apart : (hs : List ℤ) (n : ℕ) (i : Integer) → n ≤ 2 * i.genus - 2 →
+    AllByRecursion (λ f. IsUnit (difference (place hs i.class (own_exponent i)) f.at) → ⊥) (higher_below hs n i)
 higher-apart hs zero i h = tt
-higher-apart hs (suc k) i h = (apart-own hs i (factor_at hs i (higher_exponent i k) (higher_power i k)) (omega (arith, ints)), higher-apart hs k i (omega arith))
+higher-apart hs (suc k) i h =
+    (apart-own hs i (factor_at hs i (higher_exponent i k) (higher_power i k)) (omega (arith, ints)), higher-apart hs k i (omega arith))
 
 -- the power of the last factor of a higher genus
 last-power : (i : Integer) → 0 < i.genus → neg_ℤ (higher_power i (2 * i.genus - 2)) ≡ power_sign (suc i.genus) *ℤ i.value
@@ -128,7 +146,8 @@ last-power i h =
     let here : higher_power i k ≡ power_sign i.genus *ℤ i.value = ap (λ c. (power_sign (k + i.genus) *ℤ i.value) *ℤ pos c) (choose-whole k) ∙ (mul-one (power_sign (k + i.genus) *ℤ i.value) ∙ ap (λ s. s *ℤ i.value) sign) in
     ap neg_ℤ here ∙ (sym (neg-mul (power_sign i.genus) i.value) ∙ ap (λ s. s *ℤ i.value) (sym (power_sign-next i.genus)))
 
-higher-lead : (hs : List ℤ) (i : Integer) → 0 < i.genus → lead (higher_genus hs i) (place hs i.class (own_exponent i)) ≡ power_sign (suc i.genus) *ℤ i.value
+higher-lead : (hs : List ℤ) (i : Integer) → 0 < i.genus →
+    lead (higher_genus hs i) (place hs i.class (own_exponent i)) ≡ power_sign (suc i.genus) *ℤ i.value
 higher-lead hs i h =
     let k = 2 * i.genus - 2 in
     let p = place hs i.class (own_exponent i) in
@@ -142,7 +161,8 @@ size-negative z zero e = ap unsigned_abs e
 size-negative z (suc g) e = ap unsigned_abs e
 
 -- with the sign of the power of q in front, in both cases
-own-lead : (hs : List ℤ) (g J : ℕ) (i : Integer) → i.genus ≡ g → power_sign (unsigned_abs (own_exponent i)) *ℤ lead (factors_by hs g (suc J) i) (place hs i.class (own_exponent i)) ≡ i.value
+own-lead : (hs : List ℤ) (g J : ℕ) (i : Integer) → i.genus ≡ g →
+    power_sign (unsigned_abs (own_exponent i)) *ℤ lead (factors_by hs g (suc J) i) (place hs i.class (own_exponent i)) ≡ i.value
 own-lead hs zero J i e =
     let one : own_exponent i ≡ pos 1 = omega (arith, ints) in
     ap (λ z. power_sign (unsigned_abs (own_exponent i)) *ℤ z) (zero-lead hs J i e) ∙ (ap (λ m. power_sign (unsigned_abs m) *ℤ neg_ℤ i.value) one ∙ (neg-mul (pos 1) (neg_ℤ i.value) ∙ omega (arith, ints, one-mul (neg_ℤ i.value))))

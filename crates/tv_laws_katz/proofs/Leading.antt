@@ -38,25 +38,30 @@ taken-twice k d (pos e) two h high =
     omega (arith, ints, many)
 taken-twice k d (negsuc e) two h high = absurd (omega (arith, ints))
 
-no-third : (n : ℕ) (f : Factor) (gs : List Factor) (p : Place) → IsHigh p.degree f → times (suc n) f (product gs) p ≡ times 1 f (product gs) p
+no-third : (n : ℕ) (f : Factor) (gs : List Factor) (p : Place) → IsHigh p.degree f →
+    times (suc n) f (product gs) p ≡ times 1 f (product gs) p
 unfolding times
-no-third n f gs p high = sum_below-longer (λ k. power_at f.power k *ℤ product gs (difference_by k p f.at)) 2 (suc (suc n)) (omega arith) (λ k l h.
+no-third n f gs p high =
+    sum_below-longer (λ k. power_at f.power k *ℤ product gs (difference_by k p f.at)) 2 (suc (suc n)) (omega arith) (λ k l h.
     ap (λ z. power_at f.power k *ℤ z) (product-below gs (difference_by k p f.at) (omega (arith, ints, difference_by-degree k p f.at, taken-twice k p.degree f.at.degree l high.rising high.high))) ∙ *ℤ-zero (power_at f.power k))
 
 natural-above : (z : ℤ) → z ≤ℤ pos (suc (natural z))
 natural-above (pos n) = omega (arith, ints)
 natural-above (negsuc n) = omega (arith, ints)
 
-pub first_order_one : (f : Factor) (gs : List Factor) (p : Place) → IsHigh p.degree f → product (f ∷ gs) p ≡ product gs p +ℤ (power_at f.power 1 *ℤ unit (difference p f.at))
+pub first_order_one : (f : Factor) (gs : List Factor) (p : Place) → IsHigh p.degree f →
+    product (f ∷ gs) p ≡ product gs p +ℤ (power_at f.power 1 *ℤ unit (difference p f.at))
 first_order_one f gs p high =
     product-longer (suc (natural p.degree)) f gs p high.rising (natural-above p.degree) ∙
     (no-third (natural p.degree) f gs p high ∙
     (two-terms f (product gs) p ∙ ap (λ z. product gs p +ℤ (power_at f.power 1 *ℤ z)) (product-low gs (difference p f.at) (omega (arith, ints, high.high)))))
 
-pub first_order : (fs gs : List Factor) (p : Place) → AllByRecursion (IsHigh p.degree) fs → product (fs ++ gs) p ≡ product gs p +ℤ lead fs p
+pub first_order : (fs gs : List Factor) (p : Place) → AllByRecursion (IsHigh p.degree) fs →
+    product (fs ++ gs) p ≡ product gs p +ℤ lead fs p
 first_order [] gs p high = omega (arith, ints)
 first_order (f ∷ fs) gs p high = omega (arith, ints, first_order_one f (fs ++ gs) p high.0, first_order fs gs p high.1)
 
 pub lead-none : (fs : List Factor) (p : Place) → AllByRecursion (λ f. IsUnit (difference p f.at) → ⊥) fs → lead fs p ≡ pos 0
 lead-none [] p apart = refl
-lead-none (f ∷ fs) p apart = omega (arith, ints, ap (λ z. power_at f.power 1 *ℤ z) (unit-none (difference p f.at) apart.0), *ℤ-zero (power_at f.power 1), lead-none fs p apart.1)
+lead-none (f ∷ fs) p apart =
+    omega (arith, ints, ap (λ z. power_at f.power 1 *ℤ z) (unit-none (difference p f.at) apart.0), *ℤ-zero (power_at f.power 1), lead-none fs p apart.1)

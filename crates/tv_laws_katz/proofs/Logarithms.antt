@@ -41,12 +41,14 @@ split-degree q k d a y =
     let r = diff_of q in let s = diff_of k in let t = diff_of d in let u = diff_of a in let v = diff_of y in
     rw (r.2, s.2, t.2, u.2, v.2) (simp diffs (diff-same _ _ _ _ (omega arith)))
 
-theta-term : (f : Factor) (P : Place → ℤ) (p : Place) (k : ℕ) → p.degree *ℤ term f P p k ≡ term f (theta P) p k +ℤ (f.at.degree *ℤ (pos k *ℤ term f P p k))
+theta-term : (f : Factor) (P : Place → ℤ) (p : Place) (k : ℕ) →
+    p.degree *ℤ term f P p k ≡ term f (theta P) p k +ℤ (f.at.degree *ℤ (pos k *ℤ term f P p k))
 theta-term f P p k =
     let whole : p.degree ≡ (difference_by k p f.at).degree +ℤ (pos k *ℤ f.at.degree) = omega (arith, ints, difference_by-degree k p f.at) in
     ap (λ z. z *ℤ term f P p k) whole ∙ split-degree (difference_by k p f.at).degree (pos k) f.at.degree (power_at f.power k) (P (difference_by k p f.at))
 
-theta-times : (D : ℕ) (f : Factor) (P : Place → ℤ) (p : Place) → theta (times D f P) p ≡ times D f (theta P) p +ℤ (f.at.degree *ℤ counted D f P p)
+theta-times : (D : ℕ) (f : Factor) (P : Place → ℤ) (p : Place) →
+    theta (times D f P) p ≡ times D f (theta P) p +ℤ (f.at.degree *ℤ counted D f P p)
 unfolding times
 theta-times D f P p =
     sum_below-scale p.degree (term f P p) (suc D) ∙
@@ -60,18 +62,23 @@ step-apart k e a y =
     rw (r.2, s.2, t.2, u.2) (simp diffs (diff-same _ _ _ _ (omega arith)))
 
 -- the term k + 1 at p, by the term k at p - X
-next-term : (f : Factor) (P : Place → ℤ) (p : Place) (k : ℕ) → pos (suc k) *ℤ term f P p (suc k) ≡ (pos k *ℤ term f P (difference p f.at) k) +ℤ (neg_ℤ f.power *ℤ term f P (difference p f.at) k)
+next-term : (f : Factor) (P : Place → ℤ) (p : Place) (k : ℕ) →
+    pos (suc k) *ℤ term f P p (suc k) ≡ (pos k *ℤ term f P (difference p f.at) k) +ℤ (neg_ℤ f.power *ℤ term f P (difference p f.at) k)
 unfolding difference_by
 next-term f P p k =
     let y = P (difference_by k (difference p f.at) f.at) in
     sym (mul-mul (pos (suc k)) (power_at f.power (suc k)) y) ∙ (ap (λ z. z *ℤ y) (power_at-next f.power k) ∙ step-apart (pos k) f.power (power_at f.power k) y)
 
 -- where nothing is left, the term is 0
-last-term : (D : ℕ) (f : Factor) (P : Place → ℤ) (p : Place) → IsRisingSeries P → IsRising f → p.degree ≤ℤ pos D → term f P (difference p f.at) D ≡ pos 0
+last-term : (D : ℕ) (f : Factor) (P : Place → ℤ) (p : Place) → IsRisingSeries P → IsRising f → p.degree ≤ℤ pos D →
+    term f P (difference p f.at) D ≡ pos 0
 unfolding difference_by
-last-term D f P p none rising most = ap (λ z. power_at f.power D *ℤ z) (none (difference_by D (difference p f.at) f.at) (left-below (suc D) p f.at rising (omega (arith, ints)))) ∙ *ℤ-zero (power_at f.power D)
+last-term D f P p none rising most =
+    ap (λ z. power_at f.power D *ℤ z) (none (difference_by D (difference p f.at) f.at) (left-below (suc D) p f.at rising (omega (arith, ints)))) ∙
+    *ℤ-zero (power_at f.power D)
 
-counted-step : (D : ℕ) (f : Factor) (P : Place → ℤ) (p : Place) → IsRisingSeries P → IsRising f → p.degree ≤ℤ pos D → counted D f P p ≡ counted D f P (difference p f.at) +ℤ (neg_ℤ f.power *ℤ times D f P (difference p f.at))
+counted-step : (D : ℕ) (f : Factor) (P : Place → ℤ) (p : Place) → IsRisingSeries P → IsRising f → p.degree ≤ℤ pos D →
+    counted D f P p ≡ counted D f P (difference p f.at) +ℤ (neg_ℤ f.power *ℤ times D f P (difference p f.at))
 unfolding times
 counted-step D f P p none rising most =
     let q = difference p f.at in
@@ -84,17 +91,21 @@ counted-step D f P p none rising most =
     let plain = ap (λ z. neg_ℤ f.power *ℤ z) (sum_below-last (term f P q) D last) in
     omega (arith, ints, front, steps, apart, scale, count, plain, zero-*ℤ (term f P p 0))
 
-low-term : (f : Factor) (P : Place → ℤ) (p : Place) (k : ℕ) → IsRisingSeries P → IsRising f → p.degree ≤ℤ pos 0 → pos k *ℤ term f P p k ≡ pos 0
+low-term : (f : Factor) (P : Place → ℤ) (p : Place) (k : ℕ) → IsRisingSeries P → IsRising f → p.degree ≤ℤ pos 0 →
+    pos k *ℤ term f P p k ≡ pos 0
 low-term f P p zero none rising low = zero-*ℤ (term f P p 0)
 low-term f P p (suc k) none rising low =
     ap (λ z. pos (suc k) *ℤ z) (ap (λ z. power_at f.power (suc k) *ℤ z) (none (difference_by (suc k) p f.at) (left-below (suc k) p f.at rising (omega (arith, ints)))) ∙ *ℤ-zero (power_at f.power (suc k))) ∙ *ℤ-zero (pos (suc k))
 
-counted-low : (D : ℕ) (f : Factor) (P : Place → ℤ) (p : Place) → IsRisingSeries P → IsRising f → p.degree ≤ℤ pos 0 → counted D f P p ≡ pos 0
+counted-low : (D : ℕ) (f : Factor) (P : Place → ℤ) (p : Place) → IsRisingSeries P → IsRising f → p.degree ≤ℤ pos 0 →
+    counted D f P p ≡ pos 0
 counted-low D f P p none rising low = sum_below-none _ (suc D) (λ k h. low-term f P p k none rising low)
 
-counted-steps : (D m : ℕ) (f : Factor) (P : Place → ℤ) (p : Place) → IsRisingSeries P → IsRising f → p.degree ≤ℤ pos D → counted D f P p ≡ counted D f P (difference_by m p f.at) +ℤ (neg_ℤ f.power *ℤ sum_below (λ j. times D f P (difference_by (suc j) p f.at)) m)
+counted-steps : (D m : ℕ) (f : Factor) (P : Place → ℤ) (p : Place) → IsRisingSeries P → IsRising f → p.degree ≤ℤ pos D →
+    counted D f P p ≡ counted D f P (difference_by m p f.at) +ℤ (neg_ℤ f.power *ℤ sum_below (λ j. times D f P (difference_by (suc j) p f.at)) m)
 unfolding sum_below
-counted-steps D zero f P p none rising most = omega (arith, ints, *ℤ-zero (neg_ℤ f.power), ap (counted D f P) (difference_by-none p f.at))
+counted-steps D zero f P p none rising most =
+    omega (arith, ints, *ℤ-zero (neg_ℤ f.power), ap (counted D f P) (difference_by-none p f.at))
 counted-steps D (suc m) f P p none rising most =
     let q = difference_by m p f.at in
     let before = counted-steps D m f P p none rising most in
@@ -105,7 +116,8 @@ counted-steps D (suc m) f P p none rising most =
     let also = ap (λ r. neg_ℤ f.power *ℤ times D f P r) next in
     omega (arith, ints, before, here, now, also, mul-add (neg_ℤ f.power) (sum_below (λ j. times D f P (difference_by (suc j) p f.at)) m) (times D f P (difference_by (suc m) p f.at)))
 
-pub one_factor : (D : ℕ) (f : Factor) (P : Place → ℤ) (p : Place) → IsRisingSeries P → IsRising f → p.degree ≤ℤ pos D → theta (times D f P) p ≡ times D f (theta P) p +ℤ log_of D f (times D f P) p
+pub one_factor : (D : ℕ) (f : Factor) (P : Place → ℤ) (p : Place) → IsRisingSeries P → IsRising f → p.degree ≤ℤ pos D →
+    theta (times D f P) p ≡ times D f (theta P) p +ℤ log_of D f (times D f P) p
 unfolding log_of
 one_factor D f P p none rising most =
     let s = sum_below (λ j. times D f P (difference_by (suc j) p f.at)) D in

@@ -27,7 +27,8 @@ unfolding difference_by
 closed-by S f closed zero p s = s
 closed-by S f closed (suc k) p s = closed p (closed-by S f closed k (difference p f.at) s)
 
-pub outside : (S : Place → Type 0) → ((p : Place) → IsUnit p → S p) → (fs : List Factor) → AllByRecursion (IsClosed S) fs → (p : Place) → (S p → ⊥) → product fs p ≡ pos 0
+pub outside : (S : Place → Type 0) → ((p : Place) → IsUnit p → S p) → (fs : List Factor) → AllByRecursion (IsClosed S) fs →
+    (p : Place) → (S p → ⊥) → product fs p ≡ pos 0
 unfolding product times
 outside S has [] closed p out = unit-none p (λ is. out (has p is))
 outside S has (f ∷ fs) closed p out = sum_below-none _ (suc (natural p.degree)) (λ k h.
@@ -36,7 +37,8 @@ outside S has (f ∷ fs) closed p out = sum_below-none _ (suc (natural p.degree)
 unit-weight : (w : ℕ) (p : Place) → IsUnit p → weight w p ≡ pos 0
 unit-weight w p is = rw (is.exponent, is.degree) (omega (arith, ints))
 
-pub below-weight : (w : ℕ) (fs : List Factor) → AllByRecursion (IsHeavy w) fs → (p : Place) → weight w p <ℤ pos 0 → product fs p ≡ pos 0
+pub below-weight : (w : ℕ) (fs : List Factor) → AllByRecursion (IsHeavy w) fs → (p : Place) → weight w p <ℤ pos 0 →
+    product fs p ≡ pos 0
 below-weight w fs heavy p below =
     outside (λ q. pos 0 ≤ℤ weight w q) (λ q is. omega (arith, ints, unit-weight w q is)) fs
     (all-onto (IsHeavy w) (IsClosed (λ q. pos 0 ≤ℤ weight w q)) (λ f h q left. omega (arith, ints, weight-difference w q f.at)) fs heavy) p

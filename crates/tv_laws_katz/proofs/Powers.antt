@@ -4,14 +4,14 @@
 -- choose-beyond    C(n, k) = 0 for k above n; choose-whole, C(n, n) = 1; choose-more, C(n, k) grows with n
 -- power_sign-next  the sign changes from one power to the next; power_sign-square, its square is 1; twice_signed, so that
 --                  twice the sign in front is none; power_sign-same, the sign goes by parity; power_sign-size, a sign in
---                  front does not count for the size
+--                  front does not count for the size; power_sign-add, power_sign-split, signs of sums and of differences
 -- power_at-zero    the coefficient of X^0 is 1; power_at-one, that of X^1 is minus the exponent
 -- power_at-next    the coefficient of X^(k + 1) by that of X^k
 use Rattle.std.specs.Prelude.{◌≡◌, ◌⊎◌, ℕ, zero, suc, ◌+◌, ◌-◌, ◌*◌, ◌%◌, ◌≤◌, ◌<◌, ℤ, pos, negsuc, ◌-ℤ◌, ◌*ℤ◌, neg_ℤ, unsigned_abs, Bool, true, false, cond, nat_eq}
 use Rattle.std.proofs.Common.{refl, ap, arith, ◌∙◌, sym, inl, inr}
 use Rattle.std.proofs.lemmas.Int.{ints, unsigned_abs-mul}
 use Rattle.std.proofs.lemmas.Bool.Decides.{nat_tests}
-use Rattle.tv_lemmas.proofs.Integers.{sub-mul}
+use Rattle.tv_lemmas.proofs.Integers.{sub-mul, neg-mul}
 use Rattle.tv_laws_katz.proofs.Multiplied.{mul-mul, mul-middle, mul-neg, neg-pull, one-mul}
 use Rattle.tv_spec_katz.specs.Binomials.{choose, power_sign, binomial, power_at}
 
@@ -55,7 +55,8 @@ pub choose-one : (n : ℕ) → choose n 1 ≡ n
 unfolding choose
 choose-one n = omega (arith, choose-step n 0)
 
-sign_by : (a b : ℕ) → b % 2 ≡ suc a % 2 → cond (nat_eq (b % 2) 0) (pos 1) (negsuc 0) ≡ neg_ℤ (cond (nat_eq (a % 2) 0) (pos 1) (negsuc 0))
+sign_by : (a b : ℕ) → b % 2 ≡ suc a % 2 →
+    cond (nat_eq (b % 2) 0) (pos 1) (negsuc 0) ≡ neg_ℤ (cond (nat_eq (a % 2) 0) (pos 1) (negsuc 0))
 sign_by a b e = grind (arith, nat_tests, ints)
 
 pub power_sign-next : (k : ℕ) → power_sign (suc k) ≡ neg_ℤ (power_sign k)
@@ -104,7 +105,8 @@ power_at-one (pos n) = omega (arith, ints, choose-one n)
 power_at-one (negsuc n) = power_at-negsuc n 1 ∙ omega (arith, ints, choose-one (n + 1))
 
 -- (k + 1) times the next coefficient, where s is the sign, c and d the binomial coefficients
-next_by : (s : ℤ) (n k c d : ℕ) → suc k * d + k * c ≡ n * c → pos (suc k) *ℤ (neg_ℤ s *ℤ pos d) ≡ (pos k -ℤ pos n) *ℤ (s *ℤ pos c)
+next_by : (s : ℤ) (n k c d : ℕ) → suc k * d + k * c ≡ n * c →
+    pos (suc k) *ℤ (neg_ℤ s *ℤ pos d) ≡ (pos k -ℤ pos n) *ℤ (s *ℤ pos c)
 next_by s n k c d e =
     let here : pos (suc k) *ℤ pos d ≡ neg_ℤ ((pos k -ℤ pos n) *ℤ pos c) = omega (arith, ints, sub-mul (pos k) (pos n) (pos c)) in
     neg-pull s (pos (suc k)) (pos d) ∙ (rw here (omega (arith, ints, mul-neg s ((pos k -ℤ pos n) *ℤ pos c), mul-middle (pos k -ℤ pos n) s (pos c))))
@@ -118,3 +120,26 @@ pub power_at-next : (e : ℤ) (k : ℕ) → pos (suc k) *ℤ power_at e (suc k) 
 unfolding power_at binomial
 power_at-next (pos n) k = rw (power_sign-next k) (next_by (power_sign k) n k (choose n k) (choose n (suc k)) (choose-step n k))
 power_at-next (negsuc n) k = rw (power_at-negsuc n (suc k), power_at-negsuc n k) (next_above n k)
+
+pub power_sign-add : (j k : ℕ) → power_sign (j + k) ≡ power_sign j *ℤ power_sign k
+power_sign-add zero k = let none : 0 + k ≡ k = omega arith in ap power_sign none ∙ sym (one-mul (power_sign k))
+power_sign-add (suc j) k =
+    let up : suc j + k ≡ suc (j + k) = omega arith in
+    ap power_sign up ∙ (power_sign-next (j + k) ∙ (ap neg_ℤ (power_sign-add j k) ∙ (sym (neg-mul (power_sign j) (power_sign k)) ∙ ap (λ s. s *ℤ power_sign k) (sym (power_sign-next j)))))
+
+size-parity : (n m d : ℤ) → d ≡ n -ℤ m → unsigned_abs n % 2 ≡ (unsigned_abs d + unsigned_abs m) % 2
+size-parity (pos n) (pos m) (pos d) e = omega (arith, ints)
+size-parity (pos n) (pos m) (negsuc d) e = omega (arith, ints)
+size-parity (pos n) (negsuc m) (pos d) e = omega (arith, ints)
+size-parity (pos n) (negsuc m) (negsuc d) e = absurd (omega (arith, ints))
+size-parity (negsuc n) (pos m) (pos d) e = absurd (omega (arith, ints))
+size-parity (negsuc n) (pos m) (negsuc d) e = omega (arith, ints)
+size-parity (negsuc n) (negsuc m) (pos d) e = omega (arith, ints)
+size-parity (negsuc n) (negsuc m) (negsuc d) e = omega (arith, ints)
+
+-- the sign of a power is the product of those of its parts
+pub power_sign-split : (n m : ℤ) →
+    power_sign (unsigned_abs n) ≡ power_sign (unsigned_abs (n -ℤ m)) *ℤ power_sign (unsigned_abs m)
+power_sign-split n m =
+    power_sign-same (unsigned_abs n) (unsigned_abs (n -ℤ m) + unsigned_abs m) (size-parity n m (n -ℤ m) refl) ∙
+    power_sign-add (unsigned_abs (n -ℤ m)) (unsigned_abs m)

@@ -22,7 +22,8 @@ use Rattle.tv_laws_katz.proofs.Logarithms.{theta, one_factor}
 use Rattle.tv_laws_katz.proofs.Multiplied.{mul-middle}
 use Rattle.tv_laws_katz.proofs.Units.{unit-none, times-same, product-below, product-longer}
 
-pub times-add : (D : ℕ) (f : Factor) (P Q : Place → ℤ) (p : Place) → times D f (λ q. P q +ℤ Q q) p ≡ times D f P p +ℤ times D f Q p
+pub times-add : (D : ℕ) (f : Factor) (P Q : Place → ℤ) (p : Place) →
+    times D f (λ q. P q +ℤ Q q) p ≡ times D f P p +ℤ times D f Q p
 unfolding times
 times-add D f P Q p =
     sum_below-same _ _ (suc D) (λ k h. mul-add (power_at f.power k) (P (difference_by k p f.at)) (Q (difference_by k p f.at))) ∙
@@ -33,7 +34,8 @@ unfolding times
 times-none D f p = sum_below-none _ (suc D) (λ k h. *ℤ-zero (power_at f.power k))
 
 -- the two sums are exchanged
-times-sums : (D E : ℕ) (f g : Factor) (P : Place → ℤ) (p : Place) → times D f (λ q. sum_below (λ j. P (difference_by (suc j) q g.at)) E) p ≡ sum_below (λ j. times D f P (difference_by (suc j) p g.at)) E
+times-sums : (D E : ℕ) (f g : Factor) (P : Place → ℤ) (p : Place) →
+    times D f (λ q. sum_below (λ j. P (difference_by (suc j) q g.at)) E) p ≡ sum_below (λ j. times D f P (difference_by (suc j) p g.at)) E
 unfolding times
 times-sums D E f g P p =
     sum_below-same _ _ (suc D) (λ k h. sum_below-scale (power_at f.power k) (λ j. P (difference_by (suc j) (difference_by k p f.at) g.at)) E) ∙
@@ -52,19 +54,25 @@ times-log D E f g P p =
     let c = g.at.degree *ℤ neg_ℤ g.power in
     times-scale D f c (λ q. sum_below (λ j. P (difference_by (suc j) q g.at)) E) p ∙ ap (λ z. c *ℤ z) (times-sums D E f g P p)
 
-pub times-logs : (D E : ℕ) (f : Factor) (gs : List Factor) (P : Place → ℤ) (p : Place) → times D f (logs E gs P) p ≡ logs E gs (times D f P) p
+pub times-logs : (D E : ℕ) (f : Factor) (gs : List Factor) (P : Place → ℤ) (p : Place) →
+    times D f (logs E gs P) p ≡ logs E gs (times D f P) p
 unfolding logs
 times-logs D E f [] P p = times-none D f p
-times-logs D E f (g ∷ gs) P p = times-add D f (log_of E g P) (logs E gs P) p ∙ (ap (λ z. z +ℤ times D f (logs E gs P) p) (times-log D E f g P p) ∙ ap (λ z. log_of E g (times D f P) p +ℤ z) (times-logs D E f gs P p))
+times-logs D E f (g ∷ gs) P p = times-add D f (log_of E g P) (logs E gs P) p ∙
+    (ap (λ z. z +ℤ times D f (logs E gs P) p) (times-log D E f g P p) ∙ ap (λ z. log_of E g (times D f P) p +ℤ z) (times-logs D E f gs P p))
 
-pub log-same : (D E : ℕ) (f : Factor) (P Q : Place → ℤ) (p : Place) → IsRising f → p.degree ≤ℤ pos D → ((q : Place) → q.degree ≤ℤ pos D → P q ≡ Q q) → log_of E f P p ≡ log_of E f Q p
+pub log-same : (D E : ℕ) (f : Factor) (P Q : Place → ℤ) (p : Place) → IsRising f → p.degree ≤ℤ pos D →
+    ((q : Place) → q.degree ≤ℤ pos D → P q ≡ Q q) → log_of E f P p ≡ log_of E f Q p
 unfolding log_of
-log-same D E f P Q p rising most same = ap (λ z. (f.at.degree *ℤ neg_ℤ f.power) *ℤ z) (sum_below-same _ _ E (λ j h. same (difference_by (suc j) p f.at) (omega (arith, ints, difference_by-lower (suc j) p f.at rising))))
+log-same D E f P Q p rising most same =
+    ap (λ z. (f.at.degree *ℤ neg_ℤ f.power) *ℤ z) (sum_below-same _ _ E (λ j h. same (difference_by (suc j) p f.at) (omega (arith, ints, difference_by-lower (suc j) p f.at rising))))
 
-pub logs-same : (D E : ℕ) (fs : List Factor) (P Q : Place → ℤ) (p : Place) → AllByRecursion IsRising fs → p.degree ≤ℤ pos D → ((q : Place) → q.degree ≤ℤ pos D → P q ≡ Q q) → logs E fs P p ≡ logs E fs Q p
+pub logs-same : (D E : ℕ) (fs : List Factor) (P Q : Place → ℤ) (p : Place) → AllByRecursion IsRising fs → p.degree ≤ℤ pos D →
+    ((q : Place) → q.degree ≤ℤ pos D → P q ≡ Q q) → logs E fs P p ≡ logs E fs Q p
 unfolding logs
 logs-same D E [] P Q p rising most same = refl
-logs-same D E (f ∷ fs) P Q p rising most same = omega (arith, ints, log-same D E f P Q p rising.0 most same, logs-same D E fs P Q p rising.1 most same)
+logs-same D E (f ∷ fs) P Q p rising most same =
+    omega (arith, ints, log-same D E f P Q p rising.0 most same, logs-same D E fs P Q p rising.1 most same)
 
 nothing : (d x : ℤ) → x ≡ pos 0 → d *ℤ x ≡ pos 0
 nothing d x e = rw e (*ℤ-zero d)
@@ -99,4 +107,5 @@ cancelled d x y h e =
     omega (arith, ints, apart)
 
 pub factor_division : FactorDivision
-factor_division D fs p x rising least most e = cancelled p.degree x (product fs p) least (e ∙ sym (factor_recurrence D fs p rising most))
+factor_division D fs p x rising least most e =
+    cancelled p.degree x (product fs p) least (e ∙ sym (factor_recurrence D fs p rising most))

@@ -21,7 +21,8 @@ logs D fs P p = total (λ f. log_of D f P p) fs
 
 abbrev pub FactorRecurrence : Type 0
 FactorRecurrence =
-    (D : ℕ) (fs : List Factor) (p : Place) → AllByRecursion IsRising fs → p.degree ≤ℤ pos D → p.degree *ℤ product fs p ≡ logs D fs (product fs) p
+    (D : ℕ) (fs : List Factor) (p : Place) → AllByRecursion IsRising fs → p.degree ≤ℤ pos D →
+    p.degree *ℤ product fs p ≡ logs D fs (product fs) p
 
 abbrev pub FactorDivision : Type 0
 FactorDivision =
