@@ -58,7 +58,8 @@ module _ (hs : List ℤ) (vs : List (List ℤ)) (each : AllByRecursion (IsPositi
   sums_are (suc n) = all-flat_map (IsPositiveClass hs) (IsSum (suc n) hs) (λ u. map (plus u) (sums n vs hs)) (λ u positive. all-map (IsSum n hs) (IsSum (suc n) hs) (plus u) (λ v is. one_more n u v positive is) (sums n vs hs) (sums_are n)) vs each
 
   -- a sum of n and one of m classes is one of n + m classes
-  sums_add : (m n : ℕ) → AllByRecursion (λ u. (v : List ℤ) → Contains (sums m vs hs) v → Contains (sums (n + m) vs hs) (plus u v)) (sums n vs hs)
+  sums_add : (m n : ℕ)
+      → AllByRecursion (λ u. (v : List ℤ) → Contains (sums m vs hs) v → Contains (sums (n + m) vs hs) (plus u v)) (sums n vs hs)
   sums_add m zero = (
     (λ v there.
         let none : 0 + m ≡ m = omega arith in
@@ -102,11 +103,13 @@ module _ (D : ℕ) (N : ℤ) (f : Family ℤ) (normal : IsNormalized N f) where
   positive_each : AllByRecursion (IsPositiveClass f.heights) (positive_classes f)
   positive_each = all-filter (λ v. (v ≡ zeros (length f.heights)) ⊎ IsPositiveClass f.heights v) (IsPositiveClass f.heights) (λ v. int_lt (pos 0) (degree_of f.heights v)) one (classes f.rows) normal.others
     where
-      one : (v : List ℤ) → (v ≡ zeros (length f.heights)) ⊎ IsPositiveClass f.heights v → int_lt (pos 0) (degree_of f.heights v) ≡ true → IsPositiveClass f.heights v
+      one : (v : List ℤ) → (v ≡ zeros (length f.heights)) ⊎ IsPositiveClass f.heights v
+          → int_lt (pos 0) (degree_of f.heights v) ≡ true → IsPositiveClass f.heights v
       one v (inl none) b = let e = ap (degree_of f.heights) none ∙ degree_zero f.heights (length f.heights) in let up : pos 0 <ℤ degree_of f.heights v = less_tells (pos 0) (degree_of f.heights v) b in absurd (omega (arith, ints))
       one v (inr positive) b = positive
 
-  every_sum : (P : List ℤ → Type 0) → ((n : ℕ) → 1 ≤ n → AllByRecursion P (sums n (positive_classes f) f.heights)) → AllByRecursion P (all_sums D f)
+  every_sum : (P : List ℤ → Type 0) → ((n : ℕ) → 1 ≤ n → AllByRecursion P (sums n (positive_classes f) f.heights))
+      → AllByRecursion P (all_sums D f)
   every_sum P each = all-flat_map (λ n. 1 ≤ n) P (λ n. sums n (positive_classes f) f.heights) each (range_with_len 1 D) (from_one 1 D (omega arith))
     where
       from_one : (k n : ℕ) → 1 ≤ k → AllByRecursion (λ i. 1 ≤ i) (range_with_len k n)
@@ -125,7 +128,8 @@ module _ (D : ℕ) (N : ℤ) (f : Family ℤ) (normal : IsNormalized N f) where
   candidate v there = all-contains (λ v. IsClassTo D f.heights v × IsSumOf f v) (candidates D f) v candidates_are there
 
   -- a sum of classes of a degree from 1 to D is one of them
-  has_sum : (n : ℕ) (v : List ℤ) → 1 ≤ n → Contains (sums n (positive_classes f) f.heights) v → degree_of f.heights v ≤ℤ pos D → Contains (candidates D f) v
+  has_sum : (n : ℕ) (v : List ℤ) → 1 ≤ n → Contains (sums n (positive_classes f) f.heights) v → degree_of f.heights v ≤ℤ pos D
+      → Contains (candidates D f) v
   unfolding candidates
   has_sum n v up there most =
       let sum = all-contains (IsSum n f.heights) (sums n (positive_classes f) f.heights) v (sums_are f.heights (positive_classes f) positive_each n) there in

@@ -36,10 +36,12 @@ module _ (f : Family ℤ) (P : List ℤ → Type 0) where
   abbrev pub Of : Integer → Type 0
   Of i = P i.class
 
-  with_integer_of : (v : List ℤ) (g : ℕ) (z : ℤ) (is : List Integer) → P v → AllByRecursion Of is → AllByRecursion Of (with_integer v g z is)
+  with_integer_of : (v : List ℤ) (g : ℕ) (z : ℤ) (is : List Integer) → P v → AllByRecursion Of is
+      → AllByRecursion Of (with_integer v g z is)
   with_integer_of v g z is p all = bool_cases (int_eq z (pos 0)) (λ b. rw b all) (λ b. rw b (p, all))
 
-  pub read_genus_of : (v : List ℤ) (g : ℕ) (is : List Integer) → P v → AllByRecursion Of is → AllByRecursion Of (read_genus f v g is)
+  pub read_genus_of : (v : List ℤ) (g : ℕ) (is : List Integer) → P v → AllByRecursion Of is
+      → AllByRecursion Of (read_genus f v g is)
   read_genus_of v g is p all = with_integer_of v g (new_integer f v g is) is p all
 
   read_down_of : (v : List ℤ) (g : ℕ) (is : List Integer) → P v → AllByRecursion Of is → AllByRecursion Of (read_down f v g is)
@@ -49,12 +51,14 @@ module _ (f : Family ℤ) (P : List ℤ → Type 0) where
   pub read_class_of : (v : List ℤ) (is : List Integer) → P v → AllByRecursion Of is → AllByRecursion Of (read_class f is v)
   read_class_of v is p all = read_down_of v (first_genus f v is) is p all
 
-  pub read_classes_of : (vs : List (List ℤ)) (is : List Integer) → AllByRecursion P vs → AllByRecursion Of is → AllByRecursion Of (read_classes f is vs)
+  pub read_classes_of : (vs : List (List ℤ)) (is : List Integer) → AllByRecursion P vs → AllByRecursion Of is
+      → AllByRecursion Of (read_classes f is vs)
   read_classes_of [] is each all = all
   read_classes_of (v ∷ vs) is each all = read_classes_of vs (read_class f is v) each.1 (read_class_of v is each.0 all)
 
 -- what is read of two lists is read of one after the other
-pub read_append : (f : Family ℤ) (is : List Integer) (us vs : List (List ℤ)) → read_classes f is (us ++ vs) ≡ read_classes f (read_classes f is us) vs
+pub read_append : (f : Family ℤ) (is : List Integer) (us vs : List (List ℤ))
+    → read_classes f is (us ++ vs) ≡ read_classes f (read_classes f is us) vs
 read_append f is [] vs = refl
 read_append f is (u ∷ us) vs = read_append f (read_class f is u) us vs
 
@@ -94,7 +98,8 @@ within_slope hs w i h positive =
 
 module _ (D : ℕ) (f : Family ℤ) where
   -- below the exponents that are read both are 0
-  below_first : (v : List ℤ) (is : List Integer) (n : ℤ) → IsClassTo D f.heights v → AreOrdered D f.heights is → n <ℤ (pos 1 -ℤ pos (first_genus f v is)) → (katz f.heights is v n ≡ pos 0) × (coefficient_of wholes f v n ≡ pos 0)
+  below_first : (v : List ℤ) (is : List Integer) (n : ℤ) → IsClassTo D f.heights v → AreOrdered D f.heights is
+      → n <ℤ (pos 1 -ℤ pos (first_genus f v is)) → (katz f.heights is v n ≡ pos 0) × (coefficient_of wholes f v n ≡ pos 0)
   below_first v is n class order low =
       let w = depth f v is in
       let d = natural (degree_of f.heights v) in
@@ -105,7 +110,8 @@ module _ (D : ℕ) (f : Family ℤ) where
       let genera = all-both (λ i. i.genus ≤ suc (genus_depth is)) (IsPositive f.heights) (IsWithinSlope f.heights w) (λ i h k. within_slope f.heights w i (omega arith) k) is (genera_within is) (positives D f.heights is order) in
       (vanishes_by_slope f.heights w is v n genera (omega (arith, ints)), below_series f v n (omega (arith, ints)))
 
-  pub read_one : (v : List ℤ) (is : List Integer) → IsClassTo D f.heights v → AreOrdered D f.heights is → AllByRecursion (λ i. IsBefore f.heights i.class v) is → IsReadOf D f v is (read_class f is v)
+  pub read_one : (v : List ℤ) (is : List Integer) → IsClassTo D f.heights v → AreOrdered D f.heights is
+      → AllByRecursion (λ i. IsBefore f.heights i.class v) is → IsReadOf D f v is (read_class f is v)
   read_one v is class order past =
       let g = first_genus f v is in
       let d = down D f v g is class order (all-onto (λ i. IsBefore f.heights i.class v) (IsPast f.heights v g) (λ i b. inl b) is past) in
@@ -123,7 +129,8 @@ module _ (D : ℕ) (f : Family ℤ) where
 
   -- ---- a list of classes
 
-  pub read_all : (vs : List (List ℤ)) (is : List Integer) → AllByRecursion (IsClassTo D f.heights) vs → ClassesRise f.heights vs → AreOrdered D f.heights is → ArePast f.heights vs is → AreReadOf D f vs is (read_classes f is vs)
+  pub read_all : (vs : List (List ℤ)) (is : List Integer) → AllByRecursion (IsClassTo D f.heights) vs → ClassesRise f.heights vs
+      → AreOrdered D f.heights is → ArePast f.heights vs is → AreReadOf D f vs is (read_classes f is vs)
   read_all [] is each rises order past = record { ordered = order; agrees = tt; same = λ u n b. refl }
   read_all (v ∷ vs) is each rises order past =
       let first = first_before f.heights v vs rises in

@@ -16,7 +16,8 @@ use Rattle.tv_spec_katz.specs.Katz.{Integer}
 use Rattle.tv_spec_katz.specs.Integers.{depth_from, series_depth, genus_depth}
 
 -- after a first coefficient 0 the series is that of the others
-after_nought : (x : ℤ) (xs : List ℤ) (low n : ℤ) → x ≡ pos 0 → coefficient wholes (terms low (x ∷ xs)) n ≡ coefficient wholes (terms (low -ℤ negsuc 0) xs) n
+after_nought : (x : ℤ) (xs : List ℤ) (low n : ℤ) → x ≡ pos 0
+    → coefficient wholes (terms low (x ∷ xs)) n ≡ coefficient wholes (terms (low -ℤ negsuc 0) xs) n
 after_nought x xs low n e = by_lt_z n low
     (λ below. coefficient_below wholes (terms low (x ∷ xs)) n below ∙ sym (coefficient_below wholes (terms (low -ℤ negsuc 0) xs) n (omega (arith, ints))))
     (λ from_low. by_lt_z n (low -ℤ negsuc 0)
@@ -37,7 +38,8 @@ below_depth (x ∷ xs) low n h = bool_cases (int_eq x (pos 0))
     (λ b. after_nought x xs low n ((Decides-int_eq x (pos 0)).0 b) ∙ below_depth xs (low -ℤ negsuc 0) n (rw b at h))
     (λ b. let least = natural-above (pos 0 -ℤ low) in let deep : n <ℤ neg_ℤ (pos (natural (pos 0 -ℤ low))) = rw b at h in coefficient_below wholes (terms low (x ∷ xs)) n (omega (arith, ints)))
 
-pub below_series : (f : Family ℤ) (v : List ℤ) (n : ℤ) → n <ℤ neg_ℤ (pos (series_depth (find v f.rows))) → coefficient_of wholes f v n ≡ pos 0
+pub below_series : (f : Family ℤ) (v : List ℤ) (n : ℤ) → n <ℤ neg_ℤ (pos (series_depth (find v f.rows)))
+    → coefficient_of wholes f v n ≡ pos 0
 below_series f v n = found (find v f.rows)
   where
     found : (x : Option (Row ℤ)) → n <ℤ neg_ℤ (pos (series_depth x)) → series_coefficient wholes n x ≡ pos 0

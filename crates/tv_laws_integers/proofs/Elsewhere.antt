@@ -43,7 +43,8 @@ katz-zero_unit hs is m = unit_below_one hs is (zeros m) (pos 0) (zeros-low hs m)
 katz-zero_none : (hs : List ℤ) (is : List Integer) (m : ℕ) (n : ℤ) → n ≢ pos 0 → katz hs is (zeros m) n ≡ pos 0
 katz-zero_none hs is m n other = unit_below_one hs is (zeros m) n (zeros-low hs m) ∙ unit-none (place hs (zeros m) n) (λ is_unit. other is_unit.exponent)
 
-pub agrees_zero : (N : ℤ) (f : Family ℤ) (is : List Integer) (n : ℤ) → IsNormalized N f → n ≤ℤ N → Agrees f is (zeros (length f.heights)) n
+pub agrees_zero : (N : ℤ) (f : Family ℤ) (is : List Integer) (n : ℤ) → IsNormalized N f → n ≤ℤ N
+    → Agrees f is (zeros (length f.heights)) n
 agrees_zero N f is n normal h = bool_cases (int_eq n (pos 0))
     (λ b. rw ((Decides-int_eq n (pos 0)).0 b) (katz-zero_unit f.heights is (length f.heights) ∙ sym normal.unit))
     (λ b. let other : n ≢ pos 0 = λ e. let t = (Decides-int_eq n (pos 0)).1 e in cc in
@@ -74,7 +75,8 @@ module _ (D : ℕ) (f : Family ℤ) (vs : List (List ℤ)) (closed : IsClosedLis
   same_length : (i : Integer) → IsListed vs i → (v : List ℤ) → length v ≡ length f.heights → length v ≡ length i.class
   same_length i listed v entries = entries ∙ sym (all-contains (IsClassTo D f.heights) vs i.class closed.each listed).positive.entries
 
-  with_listed : (i : Integer) → IsListed vs i → (v : List ℤ) → length v ≡ length f.heights → degree_of f.heights v ≤ℤ pos D → HasPlace vs (class_difference v i.class) → HasPlace vs v
+  with_listed : (i : Integer) → IsListed vs i → (v : List ℤ) → length v ≡ length f.heights → degree_of f.heights v ≤ℤ pos D
+      → HasPlace vs (class_difference v i.class) → HasPlace vs v
   with_listed i listed v entries within (inl none) = inr (rw (zero-difference v i.class (same_length i listed v entries) none) listed)
   with_listed i listed v entries within (inr other) =
       let back = plus-difference v i.class (same_length i listed v entries) in
@@ -86,17 +88,20 @@ module _ (D : ℕ) (f : Family ℤ) (vs : List (List ℤ)) (closed : IsClosedLis
       let up = class.positive.degree in
       record { entries = class.positive.entries; positive = omega (arith, ints); sums = with_listed i listed }
 
-  product-elsewhere : (is : List Integer) (v : List ℤ) (n : ℤ) → AllByRecursion (IsListed vs) is → length v ≡ length f.heights → degree_of f.heights v ≤ℤ pos D → (HasPlace vs v → ⊥) → katz f.heights is v n ≡ pos 0
+  product-elsewhere : (is : List Integer) (v : List ℤ) (n : ℤ) → AllByRecursion (IsListed vs) is → length v ≡ length f.heights
+      → degree_of f.heights v ≤ℤ pos D → (HasPlace vs v → ⊥) → katz f.heights is v n ≡ pos 0
   product-elsewhere is v n listed entries within none = elsewhere f.heights D (HasPlace vs) is v n (λ u e z. inl z) (all-onto (IsListed vs) (AddsTo f.heights D (HasPlace vs)) listed_adds is listed) entries within none
 
   -- a class that is neither zero nor listed is not one of the family
-  series-elsewhere : (N : ℤ) (v : List ℤ) (n : ℤ) → IsNormalized N f → degree_of f.heights v ≤ℤ pos D → (HasPlace vs v → ⊥) → coefficient_of wholes f v n ≡ pos 0
+  series-elsewhere : (N : ℤ) (v : List ℤ) (n : ℤ) → IsNormalized N f → degree_of f.heights v ≤ℤ pos D → (HasPlace vs v → ⊥)
+      → coefficient_of wholes f v n ≡ pos 0
   series-elsewhere N v n normal within none = found (find v f.rows) refl
     where
       listed_rows : AllByRecursion (λ x. Contains (classes f.rows) x.class) f.rows
       listed_rows = all_classes (Contains (classes f.rows)) f.rows (all-members (classes f.rows))
 
-      not_found : (x : Row ℤ) → find v f.rows ≡ Some x → (x.class ≡ zeros (length f.heights)) ⊎ IsPositiveClass f.heights x.class → ⊥
+      not_found : (x : Row ℤ) → find v f.rows ≡ Some x
+          → (x.class ≡ zeros (length f.heights)) ⊎ IsPositiveClass f.heights x.class → ⊥
       not_found x e (inl zero_class) = none (inl (rw (sym (found_class v f.rows x e) ∙ zero_class) (zero_class-zeros (length f.heights))))
       not_found x e (inr positive) =
           let same = found_class v f.rows x e in
@@ -106,7 +111,8 @@ module _ (D : ℕ) (f : Family ℤ) (vs : List (List ℤ)) (closed : IsClosedLis
       found None e = refl
       found (Some x) e = absurd (not_found x e (found_all (λ y. (y.class ≡ zeros (length f.heights)) ⊎ IsPositiveClass f.heights y.class) v f.rows x (all_classes (λ w. (w ≡ zeros (length f.heights)) ⊎ IsPositiveClass f.heights w) f.rows normal.others) e))
 
-  pub agrees_elsewhere : (N : ℤ) (is : List Integer) (v : List ℤ) (n : ℤ) → IsNormalized N f → AllByRecursion (IsListed vs) is → IsCompared D N f v n → (Contains vs v → ⊥) → Agrees f is v n
+  pub agrees_elsewhere : (N : ℤ) (is : List Integer) (v : List ℤ) (n : ℤ) → IsNormalized N f → AllByRecursion (IsListed vs) is
+      → IsCompared D N f v n → (Contains vs v → ⊥) → Agrees f is v n
   agrees_elsewhere N is v n normal listed compared none = bool_cases (is_zero_class v)
       (λ b. let zero_class : v ≡ zeros (length f.heights) = zero_class_is v b ∙ ap zeros compared.entries in rw zero_class (agrees_zero N f is n normal compared.exponent))
       (λ b. let out : HasPlace vs v → ⊥ = has_none b in

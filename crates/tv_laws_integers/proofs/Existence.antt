@@ -37,7 +37,8 @@ only D f is js first second = only_at f.heights D is js first.ordered second.ord
 
 -- ---- rising lists in two parts
 
-pub before_back : (hs : List ℤ) (us vs : List (List ℤ)) → ClassesRise hs (us ++ vs) → AllByRecursion (λ u. AllByRecursion (IsBefore hs u) vs) us
+pub before_back : (hs : List ℤ) (us vs : List (List ℤ)) → ClassesRise hs (us ++ vs)
+    → AllByRecursion (λ u. AllByRecursion (IsBefore hs u) vs) us
 before_back hs [] vs rises = tt
 before_back hs (u ∷ us) vs rises = (all-back (IsBefore hs u) us vs (first_before hs u (us ++ vs) rises), before_back hs us vs (rise_tail hs u (us ++ vs) rises))
 
@@ -61,7 +62,8 @@ listed_or_not (u ∷ vs) v = bool_cases (same_vector u v)
 
 module _ (D : ℕ) (f : Family ℤ) where
   -- integers of listed classes that agree at the list agree everywhere
-  pub agrees_through : (N : ℤ) (vs : List (List ℤ)) (is : List Integer) → IsClosedList D f vs → IsNormalized N f → AllByRecursion (IsListed vs) is →
+  pub agrees_through : (N : ℤ) (vs : List (List ℤ)) (is : List Integer) → IsClosedList D f vs → IsNormalized N f
+      → AllByRecursion (IsListed vs) is →
       AllByRecursion (AgreesThrough N f is) vs → (v : List ℤ) (n : ℤ) → IsCompared D N f v n → Agrees f is v n
   agrees_through N vs is closed normal listed all v n compared = elim (listed_or_not vs v) as (λ _. Agrees f is v n) [
     | inl there ↦ all-contains (AgreesThrough N f is) vs v all there n compared.exponent
@@ -93,6 +95,7 @@ module _ (D : ℕ) (f : Family ℤ) where
   are_integers vs closed normal = extends [] vs closed [] (record { ordered = tt; listed = tt; agrees = tt }) normal
 
   -- the integers stand at classes of each closed list alone
-  pub integers_listed : (vs : List (List ℤ)) → IsClosedList D f vs → IsNormalized (pos 1) f → (is : List Integer) → AreIntegers D f is → AllByRecursion (IsListed vs) is
+  pub integers_listed : (vs : List (List ℤ)) → IsClosedList D f vs → IsNormalized (pos 1) f → (is : List Integer)
+      → AreIntegers D f is → AllByRecursion (IsListed vs) is
   integers_listed vs closed normal is are =
       rw (only D f is (read_classes f [] vs) are (are_integers vs closed normal)) (all_listed [] vs closed [] (record { ordered = tt; listed = tt; agrees = tt }))

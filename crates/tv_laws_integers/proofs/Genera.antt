@@ -28,7 +28,8 @@ IsPast hs v g j = IsBefore hs j.class v ⊎ ((v ≡ j.class) × (g < j.genus))
 abbrev pub IsSooner : List ℤ → List ℤ → ℕ → List ℤ → ℤ → Type 0
 IsSooner hs v g u n = IsBefore hs u v ⊎ ((u ≡ v) × (n <ℤ (pos 1 -ℤ pos g)))
 
-pub past_below : (hs v : List ℤ) (g k : ℕ) → k ≤ g → (is : List Integer) → AllByRecursion (IsPast hs v g) is → AllByRecursion (IsPast hs v k) is
+pub past_below : (hs v : List ℤ) (g k : ℕ) → k ≤ g → (is : List Integer) → AllByRecursion (IsPast hs v g) is
+    → AllByRecursion (IsPast hs v k) is
 past_below hs v g k h is all = all-onto (IsPast hs v g) (IsPast hs v k) one is all
   where
     one : (j : Integer) → IsPast hs v g j → IsPast hs v k j
@@ -52,7 +53,8 @@ pub record IsDown (D : ℕ) (f : Family ℤ) (v : List ℤ) (g : ℕ) (is more :
 
 module _ (D : ℕ) (f : Family ℤ) where
   -- the integer 0 is left out
-  step_none : (v : List ℤ) (g : ℕ) (is : List Integer) → AreOrdered D f.heights is → AllByRecursion (IsPast f.heights v g) is → new_integer f v g is ≡ pos 0 → IsStep D f v g is is
+  step_none : (v : List ℤ) (g : ℕ) (is : List Integer) → AreOrdered D f.heights is → AllByRecursion (IsPast f.heights v g) is
+      → new_integer f v g is ≡ pos 0 → IsStep D f v g is is
   step_none v g is order past none = record {
     ordered = order;
     past = λ k h. past_below f.heights v g k (omega arith) is past;
@@ -60,7 +62,9 @@ module _ (D : ℕ) (f : Family ℤ) where
     same = λ u n h. refl;
   }
 
-  step_some : (v : List ℤ) (g : ℕ) (is : List Integer) → IsClassTo D f.heights v → AreOrdered D f.heights is → AllByRecursion (IsPast f.heights v g) is → (new_integer f v g is ≡ pos 0 → ⊥) → IsStep D f v g is (record { class = v; genus = g; value = new_integer f v g is } ∷ is)
+  step_some : (v : List ℤ) (g : ℕ) (is : List Integer) → IsClassTo D f.heights v → AreOrdered D f.heights is
+      → AllByRecursion (IsPast f.heights v g) is → (new_integer f v g is ≡ pos 0 → ⊥)
+      → IsStep D f v g is (record { class = v; genus = g; value = new_integer f v g is } ∷ is)
   step_some v g is class order past some =
       let i : Integer = record { class = v; genus = g; value = new_integer f v g is } in
       let ordered : AreOrdered D f.heights (i ∷ is) = (record { positive = class.positive; within = class.within; value = some }, (past, order)) in
@@ -72,12 +76,14 @@ module _ (D : ℕ) (f : Family ℤ) where
         same = λ u n h. unchanged f.heights i is u n up h;
       }
 
-  pub step : (v : List ℤ) (g : ℕ) (is : List Integer) → IsClassTo D f.heights v → AreOrdered D f.heights is → AllByRecursion (IsPast f.heights v g) is → IsStep D f v g is (read_genus f v g is)
+  pub step : (v : List ℤ) (g : ℕ) (is : List Integer) → IsClassTo D f.heights v → AreOrdered D f.heights is
+      → AllByRecursion (IsPast f.heights v g) is → IsStep D f v g is (read_genus f v g is)
   step v g is class order past = bool_cases (int_eq (new_integer f v g is) (pos 0))
       (λ b. rw b (step_none v g is order past ((Decides-int_eq (new_integer f v g is) (pos 0)).0 b)))
       (λ b. rw b (step_some v g is class order past (λ e. let t = (Decides-int_eq (new_integer f v g is) (pos 0)).1 e in cc)))
 
-  pub down : (v : List ℤ) (g : ℕ) (is : List Integer) → IsClassTo D f.heights v → AreOrdered D f.heights is → AllByRecursion (IsPast f.heights v g) is → IsDown D f v g is (read_down f v g is)
+  pub down : (v : List ℤ) (g : ℕ) (is : List Integer) → IsClassTo D f.heights v → AreOrdered D f.heights is
+      → AllByRecursion (IsPast f.heights v g) is → IsDown D f v g is (read_down f v g is)
   down v zero is class order past =
       let s = step v zero is class order past in
       record { ordered = s.ordered; agrees = λ k h. let z : k ≡ 0 = omega arith in rw z s.agrees; same = s.same }

@@ -74,7 +74,8 @@ plane_are : AreIntegers 2 plane_series plane_integers
 plane_are = subst (AreIntegers 2 plane_series) plane_read (integers_are 2 plane_series plane_normalized)
 
 -- so neither the lines alone nor both with one sign are its integers
-not_without_conics : AreIntegers 2 plane_series (record { class = negsuc 2 ∷ pos 1 ∷ pos 1 ∷ pos 1 ∷ []; genus = 0; value = pos 3 } ∷ []) → ⊥
+not_without_conics : AreIntegers 2 plane_series (record { class = negsuc 2 ∷ pos 1 ∷ pos 1 ∷ pos 1 ∷ []; genus = 0; value = pos 3 } ∷ [])
+    → ⊥
 not_without_conics is = let e = only 2 plane_series _ plane_integers is plane_are in cc
 
 -- ---- families that have no integers, and how far one is normalized

@@ -15,7 +15,8 @@ later_trans hs i j k (inl a) (inr b) = inl (rw b.0 at a)
 later_trans hs i j k (inr a) (inl b) = inl (rw (a.0) b)
 later_trans hs i j k (inr a) (inr b) = let first = a.1 in let second = b.1 in inr (a.0 ∙ b.0, omega arith)
 
-by_genus : (hs : List ℤ) (i j : Integer) → i.class ≡ j.class → ComesLater hs i j ⊎ (((i.class ≡ j.class) × (i.genus ≡ j.genus)) ⊎ ComesLater hs j i)
+by_genus : (hs : List ℤ) (i j : Integer) → i.class ≡ j.class
+    → ComesLater hs i j ⊎ (((i.class ≡ j.class) × (i.genus ≡ j.genus)) ⊎ ComesLater hs j i)
 by_genus hs i j e = elim (cases_lt i.genus j.genus) as (λ _. ComesLater hs i j ⊎ (((i.class ≡ j.class) × (i.genus ≡ j.genus)) ⊎ ComesLater hs j i)) [
   | inl less ↦ inl (inr (e, less))
   | inr more ↦ elim (cases_lt j.genus i.genus) as (λ _. ComesLater hs i j ⊎ (((i.class ≡ j.class) × (i.genus ≡ j.genus)) ⊎ ComesLater hs j i)) [
@@ -24,17 +25,20 @@ by_genus hs i j e = elim (cases_lt i.genus j.genus) as (λ _. ComesLater hs i j 
   ]
 ]
 
-pub later_total : (hs : List ℤ) (i j : Integer) → length i.class ≡ length j.class → ComesLater hs i j ⊎ (((i.class ≡ j.class) × (i.genus ≡ j.genus)) ⊎ ComesLater hs j i)
+pub later_total : (hs : List ℤ) (i j : Integer) → length i.class ≡ length j.class
+    → ComesLater hs i j ⊎ (((i.class ≡ j.class) × (i.genus ≡ j.genus)) ⊎ ComesLater hs j i)
 later_total hs i j e = elim (before_total hs i.class j.class e) as (λ _. ComesLater hs i j ⊎ (((i.class ≡ j.class) × (i.genus ≡ j.genus)) ⊎ ComesLater hs j i)) [
   | inl before ↦ inr (inr (inl before))
   | inr (inl same) ↦ by_genus hs i j same
   | inr (inr after) ↦ inl (inl after)
 ]
 
-pub later_all : (hs : List ℤ) (i j : Integer) (is : List Integer) → ComesLater hs i j → AllByRecursion (ComesLater hs j) is → AllByRecursion (ComesLater hs i) is
+pub later_all : (hs : List ℤ) (i j : Integer) (is : List Integer) → ComesLater hs i j → AllByRecursion (ComesLater hs j) is
+    → AllByRecursion (ComesLater hs i) is
 later_all hs i j is h all = all-onto (ComesLater hs j) (ComesLater hs i) (λ k b. later_trans hs i j k h b) is all
 
-pub later_alike : (hs : List ℤ) (i j : Integer) → i.class ≡ j.class → i.genus ≡ j.genus → (ks : List Integer) → AllByRecursion (ComesLater hs i) ks → AllByRecursion (ComesLater hs j) ks
+pub later_alike : (hs : List ℤ) (i j : Integer) → i.class ≡ j.class → i.genus ≡ j.genus → (ks : List Integer)
+    → AllByRecursion (ComesLater hs i) ks → AllByRecursion (ComesLater hs j) ks
 later_alike hs i j c g ks all = all-onto (ComesLater hs i) (ComesLater hs j) (one i j c g) ks all
   where
     one : (i j : Integer) → i.class ≡ j.class → i.genus ≡ j.genus → (k : Integer) → ComesLater hs i k → ComesLater hs j k

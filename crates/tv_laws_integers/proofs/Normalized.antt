@@ -55,14 +55,16 @@ module _ (w : Web) (d : ℕ) (n : ℤ) (f : Family ℤ) (graded : IsGraded w) (e
   zero_is_one x e = found_all (λ y. y.class ≡ zeros (length w.points) → IsOne wholes n y.series) (zeros (length w.points)) f.rows x facts.one e (found_class (zeros (length w.points)) f.rows x e)
 
   -- what holds of every series that is one holds of that of class zero
-  of_zero : (P : ℤ → Type 0) (m : ℤ) → ((x : Row ℤ) → IsOne wholes n x.series → P (coefficient wholes x.series m)) → P (coefficient_of wholes f (zeros (length w.points)) m)
+  of_zero : (P : ℤ → Type 0) (m : ℤ) → ((x : Row ℤ) → IsOne wholes n x.series → P (coefficient wholes x.series m))
+      → P (coefficient_of wholes f (zeros (length w.points)) m)
   of_zero P m h = found (find (zeros (length w.points)) f.rows) refl
     where
       found : (x : Option (Row ℤ)) → find (zeros (length w.points)) f.rows ≡ x → P (series_coefficient wholes m x)
       found None e = absurd (not_lost (zeros (length w.points)) f.rows facts.zero e)
       found (Some x) e = h x (zero_is_one x e)
 
-  class_of_row : (v : List ℤ) → IsClass w d v → (v ≡ zeros (length w.points)) ⊎ (pos 0 <ℤ degree_of w.heights v) → (v ≡ zeros (length f.heights)) ⊎ IsPositiveClass f.heights v
+  class_of_row : (v : List ℤ) → IsClass w d v → (v ≡ zeros (length w.points)) ⊎ (pos 0 <ℤ degree_of w.heights v)
+      → (v ≡ zeros (length f.heights)) ⊎ IsPositiveClass f.heights v
   class_of_row v class (inl none) = inl (none ∙ ap zeros (sym one_each))
   class_of_row v class (inr positive) =
       let entries : length v ≡ length f.heights = ap length (sym class.same) ∙ (length-class_of w class.witness ∙ sym one_each) in

@@ -21,12 +21,14 @@ moved F G z v w m n e e' h = rw (e, e') h
 
 module _ (hs : List ℤ) (D : ℕ) where
   -- without an integer the product stays at the earlier places
-  without : (i : Integer) (is js ks : List Integer) → AllByRecursion (IsPositive hs) (i ∷ is) → AllByRecursion (ComesLater hs i) ks → AllByRecursion (AgreeAt hs (i ∷ is) js) ks → AllByRecursion (AgreeAt hs is js) ks
+  without : (i : Integer) (is js ks : List Integer) → AllByRecursion (IsPositive hs) (i ∷ is)
+      → AllByRecursion (ComesLater hs i) ks → AllByRecursion (AgreeAt hs (i ∷ is) js) ks → AllByRecursion (AgreeAt hs is js) ks
   without i is js ks up later all =
       all-both (ComesLater hs i) (AgreeAt hs (i ∷ is) js) (AgreeAt hs is js) (λ k b e. sym (unchanged hs i is k.class (own_exponent k) up (earlier_place hs i k b)) ∙ e) ks later all
 
   -- a list has no integer that comes later than all of the other one
-  none_later : (i : Integer) (is js : List Integer) → AreOrdered D hs (i ∷ is) → AllByRecursion (ComesLater hs i) js → AllByRecursion (AgreeAt hs (i ∷ is) js) (i ∷ is) → AllByRecursion (AgreeAt hs (i ∷ is) js) js
+  none_later : (i : Integer) (is js : List Integer) → AreOrdered D hs (i ∷ is) → AllByRecursion (ComesLater hs i) js
+      → AllByRecursion (AgreeAt hs (i ∷ is) js) (i ∷ is) → AllByRecursion (AgreeAt hs (i ∷ is) js) js
       → (AllByRecursion (AgreeAt hs is js) is → AllByRecursion (AgreeAt hs is js) js → is ≡ js) → ⊥
   none_later i is js order later all others rest =
       let up = positives D hs (i ∷ is) order in
@@ -36,7 +38,8 @@ module _ (hs : List ℤ) (D : ℕ) where
       order.0.value (omega (arith, ints))
 
   -- of two last integers with one place the values are the same
-  both_last : (i j : Integer) (is js : List Integer) → AreOrdered D hs (i ∷ is) → AreOrdered D hs (j ∷ js) → i.class ≡ j.class → i.genus ≡ j.genus → is ≡ js → AgreeAt hs (i ∷ is) (j ∷ js) i → i ≡ j
+  both_last : (i j : Integer) (is js : List Integer) → AreOrdered D hs (i ∷ is) → AreOrdered D hs (j ∷ js) → i.class ≡ j.class
+      → i.genus ≡ j.genus → is ≡ js → AgreeAt hs (i ∷ is) (j ∷ js) i → i ≡ j
   both_last i j is js order order' c g rest e =
       let first = new_integer hs i is (positives D hs (i ∷ is) order) in
       let second = moved (katz hs (j ∷ js)) (katz hs js) j.value i.class j.class (own_exponent i) (own_exponent j) c (ap (λ n. pos 1 -ℤ pos n) g) (new_integer hs j js (positives D hs (j ∷ js) order')) in
@@ -44,12 +47,14 @@ module _ (hs : List ℤ) (D : ℕ) where
       same_integer i j c g (omega (arith, ints))
 
   -- of two last integers with one place neither is needed for the other ones to agree
-  without_both : (i j : Integer) (is js ks : List Integer) → AllByRecursion (IsPositive hs) (i ∷ is) → AllByRecursion (IsPositive hs) (j ∷ js) → AllByRecursion (ComesLater hs i) ks → AllByRecursion (ComesLater hs j) ks
+  without_both : (i j : Integer) (is js ks : List Integer) → AllByRecursion (IsPositive hs) (i ∷ is)
+      → AllByRecursion (IsPositive hs) (j ∷ js) → AllByRecursion (ComesLater hs i) ks → AllByRecursion (ComesLater hs j) ks
       → AllByRecursion (AgreeAt hs (i ∷ is) (j ∷ js)) ks → AllByRecursion (AgreeAt hs is js) ks
   without_both i j is js ks up up' later later' all =
       turned hs js is ks (without j js is ks up' later' (turned hs is (j ∷ js) ks (without i is (j ∷ js) ks up later all)))
 
-  only_by : (n : ℕ) (is js : List Integer) → length is + length js ≤ n → AreOrdered D hs is → AreOrdered D hs js → AllByRecursion (AgreeAt hs is js) is → AllByRecursion (AgreeAt hs is js) js → is ≡ js
+  only_by : (n : ℕ) (is js : List Integer) → length is + length js ≤ n → AreOrdered D hs is → AreOrdered D hs js
+      → AllByRecursion (AgreeAt hs is js) is → AllByRecursion (AgreeAt hs is js) js → is ≡ js
   only_by n [] [] few order order' all all' = refl
   only_by zero (i ∷ is) js few order order' all all' = absurd (omega arith)
   only_by zero [] (j ∷ js) few order order' all all' = absurd (omega arith)
@@ -69,5 +74,6 @@ module _ (hs : List ℤ) (D : ℕ) where
         (λ own others. sym (only_by n (i ∷ is) js (omega arith) order order'.1.1 (turned hs js (i ∷ is) (i ∷ is) others) (turned hs js (i ∷ is) js own))))
   ]
 
-  pub only_at : (is js : List Integer) → AreOrdered D hs is → AreOrdered D hs js → AllByRecursion (AgreeAt hs is js) is → AllByRecursion (AgreeAt hs is js) js → is ≡ js
+  pub only_at : (is js : List Integer) → AreOrdered D hs is → AreOrdered D hs js → AllByRecursion (AgreeAt hs is js) is
+      → AllByRecursion (AgreeAt hs is js) js → is ≡ js
   only_at is js = only_by (length is + length js) is js (omega arith)

@@ -31,11 +31,13 @@ abbrev pub OwnAgrees : Family ℤ → List Integer → Integer → Type 0
 OwnAgrees f is k = Agrees f is k.class (own_exponent k)
 
 module _ (D : ℕ) (f : Family ℤ) (c : ℕ) (begins : BeginsAbove D f c) where
-  without_last : (i : Integer) (is : List Integer) → AreOrdered D f.heights (i ∷ is) → AllByRecursion (OwnAgrees f (i ∷ is)) is → AllByRecursion (OwnAgrees f is) is
+  without_last : (i : Integer) (is : List Integer) → AreOrdered D f.heights (i ∷ is) → AllByRecursion (OwnAgrees f (i ∷ is)) is
+      → AllByRecursion (OwnAgrees f is) is
   without_last i is order all = all-both (ComesLater f.heights i) (OwnAgrees f (i ∷ is)) (OwnAgrees f is)
       (λ k b e. sym (unchanged f.heights i is k.class (own_exponent k) (positives D f.heights (i ∷ is) order) (earlier_place f.heights i k b)) ∙ e) is order.1.0 all
 
-  last_within : (i : Integer) (is : List Integer) → AreOrdered D f.heights (i ∷ is) → OwnAgrees f (i ∷ is) i → AllByRecursion (IsWithinSlope f.heights c) is → IsWithinSlope f.heights c i
+  last_within : (i : Integer) (is : List Integer) → AreOrdered D f.heights (i ∷ is) → OwnAgrees f (i ∷ is) i
+      → AllByRecursion (IsWithinSlope f.heights c) is → IsWithinSlope f.heights c i
   last_within i is order own within = by_lt_z ((pos c *ℤ degree_of f.heights i.class) +ℤ pos 1) (pos i.genus)
       (λ steep.
       let up = order.0.positive.degree in
@@ -46,7 +48,8 @@ module _ (D : ℕ) (f : Family ℤ) (c : ℕ) (begins : BeginsAbove D f c) where
       absurd (order.0.value (omega (arith, ints))))
       (λ flat. record { positive = (positives D f.heights (i ∷ is) order).0; slope = flat })
 
-  pub within_by : (is : List Integer) → AreOrdered D f.heights is → AllByRecursion (OwnAgrees f is) is → AllByRecursion (IsWithinSlope f.heights c) is
+  pub within_by : (is : List Integer) → AreOrdered D f.heights is → AllByRecursion (OwnAgrees f is) is
+      → AllByRecursion (IsWithinSlope f.heights c) is
   within_by [] order all = tt
   within_by (i ∷ is) order all =
       let rest = within_by is order.1.1 (without_last i is order all.1) in
@@ -57,7 +60,8 @@ module _ (D : ℕ) (f : Family ℤ) (c : ℕ) (begins : BeginsAbove D f c) where
 
 -- ---- and the series within that of the integers
 
-pub series_within : (D : ℕ) (f : Family ℤ) (c : ℕ) (is : List Integer) → AreIntegers D f is → AllByRecursion (IsWithinSlope f.heights c) is → BeginsAbove D f c
+pub series_within : (D : ℕ) (f : Family ℤ) (c : ℕ) (is : List Integer) → AreIntegers D f is
+    → AllByRecursion (IsWithinSlope f.heights c) is → BeginsAbove D f c
 series_within D f c is are within v n class low =
     let up = class.positive.degree in
     let weight : pos 0 ≤ℤ (pos c *ℤ degree_of f.heights v) = mul-nonneg-nonneg (pos c) (degree_of f.heights v) (omega (arith, ints)) (omega (arith, ints)) in
@@ -95,19 +99,22 @@ module _ (hs : List ℤ) (c : ℕ) (i : Integer) (positive : IsPositive hs i) wh
       let more : rounded_up (i.genus - 1) d * d ≤ c * d = mul-le (rounded_up (i.genus - 1) d) d c d h (omega arith) in
       record { positive = positive; slope = omega (arith, ints, product, degree) }
 
-greatest-cons : (D : ℕ) (hs : List ℤ) (i : Integer) (is : List Integer) → IsInteger D hs i → greatest_slope hs (i ∷ is) ≡ max (slope_of hs i) (greatest_slope hs is)
+greatest-cons : (D : ℕ) (hs : List ℤ) (i : Integer) (is : List Integer) → IsInteger D hs i
+    → greatest_slope hs (i ∷ is) ≡ max (slope_of hs i) (greatest_slope hs is)
 greatest-cons D hs i is some = bool_cases (int_eq i.value (pos 0))
     (λ b. absurd (some.value ((Decides-int_eq i.value (pos 0)).0 b)))
     (λ b. rw b refl)
 
-pub slopes-most : (D : ℕ) (hs : List ℤ) (c : ℕ) (is : List Integer) → AreOrdered D hs is → AllByRecursion (IsWithinSlope hs c) is → greatest_slope hs is ≤ c
+pub slopes-most : (D : ℕ) (hs : List ℤ) (c : ℕ) (is : List Integer) → AreOrdered D hs is
+    → AllByRecursion (IsWithinSlope hs c) is → greatest_slope hs is ≤ c
 slopes-most D hs c [] order all = omega arith
 slopes-most D hs c (i ∷ is) order all =
     let first = slope-most hs c i all.0.positive all.0 in
     let rest = slopes-most D hs c is order.1.1 all.1 in
     rw (greatest-cons D hs i is order.0) (omega arith)
 
-pub slopes-least : (D : ℕ) (hs : List ℤ) (c : ℕ) (is : List Integer) → AreOrdered D hs is → greatest_slope hs is ≤ c → AllByRecursion (IsWithinSlope hs c) is
+pub slopes-least : (D : ℕ) (hs : List ℤ) (c : ℕ) (is : List Integer) → AreOrdered D hs is → greatest_slope hs is ≤ c
+    → AllByRecursion (IsWithinSlope hs c) is
 slopes-least D hs c [] order h = tt
 slopes-least D hs c (i ∷ is) order h =
     let step = greatest-cons D hs i is order.0 in

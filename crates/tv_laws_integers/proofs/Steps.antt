@@ -40,7 +40,8 @@ sooner_than hs v g top u n h (inl a) = inl a
 sooner_than hs v g top u n h (inr a) = let less = a.1 in inr (a.0, omega (arith, ints))
 
 module _ (D : ℕ) (f : Family ℤ) (v : List ℤ) (class : IsClassTo D f.heights v) (is : List Integer) where
-  pub read_none : (top : ℕ) → AreOrdered D f.heights is → AllByRecursion (λ i. IsBefore f.heights i.class v) is → IsReadTo D f v top (suc top) is is
+  pub read_none : (top : ℕ) → AreOrdered D f.heights is → AllByRecursion (λ i. IsBefore f.heights i.class v) is
+      → IsReadTo D f v top (suc top) is is
   read_none top order before = record {
     ordered = order;
     past = λ k h. all-onto (λ i. IsBefore f.heights i.class v) (IsPast f.heights v k) (λ i b. inl b) is before;
@@ -49,7 +50,8 @@ module _ (D : ℕ) (f : Family ℤ) (v : List ℤ) (class : IsClassTo D f.height
     listed = λ vs there all. all;
   }
 
-  pub read_next : (top g : ℕ) (more : List Integer) → g ≤ top → IsReadTo D f v top (suc g) is more → IsReadTo D f v top g is (read_genus f v g more)
+  pub read_next : (top g : ℕ) (more : List Integer) → g ≤ top → IsReadTo D f v top (suc g) is more
+      → IsReadTo D f v top g is (read_genus f v g more)
   read_next top g more within so =
       let s = step D f v g more class so.ordered (so.past g (omega arith)) in
       record {
@@ -63,7 +65,8 @@ module _ (D : ℕ) (f : Family ℤ) (v : List ℤ) (class : IsClassTo D f.height
         listed = λ vs there all. read_genus_of f (Contains vs) v g more there (so.listed vs there all);
       }
 
-  pub read_whole : (c top : ℕ) (more : List Integer) → BeginsAbove D f c → AllByRecursion (IsWithinSlope f.heights c) is → ((pos c *ℤ degree_of f.heights v) +ℤ pos 1) ≤ℤ pos top → IsReadTo D f v top 0 is more → IsReadOf D f v is more
+  pub read_whole : (c top : ℕ) (more : List Integer) → BeginsAbove D f c → AllByRecursion (IsWithinSlope f.heights c) is
+      → ((pos c *ℤ degree_of f.heights v) +ℤ pos 1) ≤ℤ pos top → IsReadTo D f v top 0 is more → IsReadOf D f v is more
   read_whole c top more begins within bound whole = record {
     ordered = whole.ordered;
     agrees = λ n h. elim (cases_lt top (natural (pos 1 -ℤ n))) as (λ _. Agrees f more v n) [
@@ -81,14 +84,20 @@ module _ (D : ℕ) (f : Family ℤ) (v : List ℤ) (class : IsClassTo D f.height
 pub begun_none : (D : ℕ) (f : Family ℤ) → IsBegun D f [] []
 begun_none D f = record { ordered = tt; listed = tt; agrees = tt }
 
-pub begun_within : (D : ℕ) (f : Family ℤ) (c : ℕ) (read : List (List ℤ)) (is : List Integer) → BeginsAbove D f c → IsBegun D f read is → AllByRecursion (IsWithinSlope f.heights c) is
+pub begun_within : (D : ℕ) (f : Family ℤ) (c : ℕ) (read : List (List ℤ)) (is : List Integer) → BeginsAbove D f c
+    → IsBegun D f read is → AllByRecursion (IsWithinSlope f.heights c) is
 begun_within D f c read is begins begun = within_by D f c begins is begun.ordered
     (all-onto (IsListed read) (OwnAgrees f is) (λ i there. all-contains (AgreesThrough (pos 1) f is) read i.class begun.agrees there (pos 1 -ℤ pos i.genus) (omega (arith, ints))) is begun.listed)
 
-pub through_next : (D : ℕ) (N : ℤ) (f : Family ℤ) (v : List ℤ) (front : List (List ℤ)) (is more : List Integer) → AllByRecursion (λ u. IsBefore f.heights u v) front → IsReadOf D f v is more → AllByRecursion (AgreesThrough N f is) front → AllByRecursion (AgreesThrough N f more) front
+pub through_next : (D : ℕ) (N : ℤ) (f : Family ℤ) (v : List ℤ) (front : List (List ℤ)) (is more : List Integer)
+    → AllByRecursion (λ u. IsBefore f.heights u v) front → IsReadOf D f v is more → AllByRecursion (AgreesThrough N f is) front
+    → AllByRecursion (AgreesThrough N f more) front
 through_next D N f v front is more before of all = all-both (λ u. IsBefore f.heights u v) (AgreesThrough N f is) (AgreesThrough N f more) (λ u b through n h. of.same u n b ∙ through n h) front before all
 
-pub begun_next : (D : ℕ) (f : Family ℤ) (v : List ℤ) (front : List (List ℤ)) (is more : List Integer) → AllByRecursion (λ u. IsBefore f.heights u v) front → IsBegun D f front is → IsReadOf D f v is more → ((vs : List (List ℤ)) → Contains vs v → AllByRecursion (IsListed vs) is → AllByRecursion (IsListed vs) more) → IsBegun D f (front ++ (v ∷ [])) more
+pub begun_next : (D : ℕ) (f : Family ℤ) (v : List ℤ) (front : List (List ℤ)) (is more : List Integer)
+    → AllByRecursion (λ u. IsBefore f.heights u v) front → IsBegun D f front is → IsReadOf D f v is more
+    → ((vs : List (List ℤ)) → Contains vs v → AllByRecursion (IsListed vs) is → AllByRecursion (IsListed vs) more)
+    → IsBegun D f (front ++ (v ∷ [])) more
 begun_next D f v front is more before begun of listed = record {
   ordered = of.ordered;
   listed = listed (front ++ (v ∷ [])) (Contains-append_right front (v ∷ []) v (contains-head v v [] refl)) (all-onto (IsListed front) (IsListed (front ++ (v ∷ []))) (λ i there. Contains-append_left front (v ∷ []) i.class there) is begun.listed);
