@@ -7,6 +7,7 @@ pub mod Elsewhere
 pub mod Existence
 pub mod Mismatches
 pub mod Sorted
+pub mod SumsOfClasses
 pub mod Candidates
 pub mod Proved
 mod IntegerValues
