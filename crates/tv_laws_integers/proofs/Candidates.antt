@@ -69,7 +69,8 @@ record IsFound (D : ℕ) (f : Family ℤ) (v : List ℤ) : Type 0 where
 
 module _ (D : ℕ) (N : ℤ) (f : Family ℤ) (normal : IsNormalized N f) where
   positive_each : AllByRecursion (IsPositiveClass f.heights) (positive_classes f)
-  positive_each = all-filter (HasPositive f) (IsPositiveClass f.heights) (is_positive f) (positive_one f) (classes f.rows) normal.others
+  positive_each = all-filter (HasPositive f) (IsPositiveClass f.heights) (is_positive f) (positive_one f) (classes f.rows)
+      normal.others
 
   -- ---- all sums
 
@@ -79,7 +80,8 @@ module _ (D : ℕ) (N : ℤ) (f : Family ℤ) (normal : IsNormalized N f) where
       (sums n (positive_classes f) f.heights) (sums_are f.heights (positive_classes f) positive_each n) (all-members _)
 
   all_sums_of : AllByRecursion (IsSumOf f) (all_sums D f)
-  all_sums_of = all-flat_map (λ n. 1 ≤ n) (IsSumOf f) (λ n. sums n (positive_classes f) f.heights) sums_of (range_with_len 1 D) (from_one 1 D (omega arith))
+  all_sums_of = all-flat_map (λ n. 1 ≤ n) (IsSumOf f) (λ n. sums n (positive_classes f) f.heights) sums_of (range_with_len 1 D)
+      (from_one 1 D (omega arith))
     where
       from_one : (k n : ℕ) → 1 ≤ k → AllByRecursion (λ i. 1 ≤ i) (range_with_len k n)
       from_one k zero h = tt
@@ -102,7 +104,8 @@ module _ (D : ℕ) (N : ℤ) (f : Family ℤ) (normal : IsNormalized N f) where
   rises : ClassesRise f.heights (candidates D f)
   unfolding candidates
   rises = sorted_rises f.heights (length f.heights) (filter (is_within D f.heights) (all_sums D f))
-      (all-onto (IsFound D f) (λ v. length v ≡ length f.heights) (λ v is. is.sum.entries) (filter (is_within D f.heights) (all_sums D f)) within_are)
+      (all-onto (IsFound D f) (λ v. length v ≡ length f.heights) (λ v is. is.sum.entries)
+      (filter (is_within D f.heights) (all_sums D f)) within_are)
 
   candidate : (v : List ℤ) → Contains (candidates D f) v → IsFound D f v
   candidate v there = all-contains (IsFound D f) (candidates D f) v candidates_are there
@@ -113,9 +116,11 @@ module _ (D : ℕ) (N : ℤ) (f : Family ℤ) (normal : IsNormalized N f) where
   unfolding candidates
   has_sum n v up there most =
       let least = (sum_is f.heights (positive_classes f) positive_each n v there).degree in
-      let among = contains-flat_map (λ k. sums k (positive_classes f) f.heights) n v (range_with_len 1 D) (contains-range 1 D n up (omega (arith, ints))) there in
+      let among = contains-flat_map (λ k. sums k (positive_classes f) f.heights) n v (range_with_len 1 D)
+      (contains-range 1 D n up (omega (arith, ints))) there in
       let passes = within-true D f.heights v (omega (arith, ints)) most in
-      contains_sorted f.heights v (filter (is_within D f.heights) (all_sums D f)) (contains-filter (is_within D f.heights) v (all_sums D f) among passes)
+      contains_sorted f.heights v (filter (is_within D f.heights) (all_sums D f))
+      (contains-filter (is_within D f.heights) v (all_sums D f) among passes)
 
   has_plus : (u v : List ℤ) → Contains (candidates D f) u → Contains (candidates D f) v → degree_of f.heights (plus u v) ≤ℤ pos D
       → Contains (candidates D f) (plus u v)
@@ -123,7 +128,8 @@ module _ (D : ℕ) (N : ℤ) (f : Family ℤ) (normal : IsNormalized N f) where
       let one = (candidate u first).sum in
       let other = (candidate v second).sum in
       let up = one.least in
-      has_sum (one.count + other.count) (plus u v) (omega arith) (sums_add f.heights (positive_classes f) positive_each other.count one.count u v one.there other.there) most
+      has_sum (one.count + other.count) (plus u v) (omega arith)
+      (sums_add f.heights (positive_classes f) positive_each other.count one.count u v one.there other.there) most
 
   has_class : (v : List ℤ) → Contains (classes f.rows) v → IsClassTo D f.heights v → Contains (candidates D f) v
   has_class v there class =

@@ -107,14 +107,16 @@ module _ (D : ℕ) (f : Family ℤ) where
       let degree = natural-is (degree_of f.heights v) (omega (arith, ints)) in
       let product : pos w *ℤ degree_of f.heights v ≡ pos (d * w) = ap (λ z. pos w *ℤ z) degree ∙ ap pos (mul_comm w d) in
       let once : w ≤ d * w = rw (mul_comm d w) (slope-by w d (omega (arith, ints))) in
-      let genera = all-both (λ i. i.genus ≤ suc (genus_depth is)) (IsPositive f.heights) (IsWithinSlope f.heights w) (λ i h k. within_slope f.heights w i (omega arith) k) is (genera_within is) (positives D f.heights is order) in
+      let genera = all-both (λ i. i.genus ≤ suc (genus_depth is)) (IsPositive f.heights) (IsWithinSlope f.heights w)
+      (λ i h k. within_slope f.heights w i (omega arith) k) is (genera_within is) (positives D f.heights is order) in
       (vanishes_by_slope f.heights w is v n genera (omega (arith, ints)), below_series f v n (omega (arith, ints)))
 
   pub read_one : (v : List ℤ) (is : List Integer) → IsClassTo D f.heights v → AreOrdered D f.heights is
       → AllByRecursion (λ i. IsBefore f.heights i.class v) is → IsReadOf D f v is (read_class f is v)
   read_one v is class order past =
       let g = first_genus f v is in
-      let d = down D f v g is class order (all-onto (λ i. IsBefore f.heights i.class v) (IsPast f.heights v g) (λ i b. inl b) is past) in
+      let d = down D f v g is class order
+      (all-onto (λ i. IsBefore f.heights i.class v) (IsPast f.heights v g) (λ i b. inl b) is past) in
       record {
         ordered = d.ordered;
         agrees = λ n h. elim (cases_lt g (natural (pos 1 -ℤ n))) as (λ _. Agrees f (read_class f is v) v n) [
@@ -134,8 +136,12 @@ module _ (D : ℕ) (f : Family ℤ) where
   read_all [] is each rises order past = record { ordered = order; agrees = tt; same = λ u n b. refl }
   read_all (v ∷ vs) is each rises order past =
       let first = first_before f.heights v vs rises in
-      let one = read_one v is each.0 order (all-onto (λ i. AllByRecursion (IsBefore f.heights i.class) (v ∷ vs)) (λ i. IsBefore f.heights i.class v) (λ i b. b.0) is past) in
-      let later : ArePast f.heights vs (read_class f is v) = read_class_of f (λ w. AllByRecursion (IsBefore f.heights w) vs) v is first (all-onto (λ i. AllByRecursion (IsBefore f.heights i.class) (v ∷ vs)) (λ i. AllByRecursion (IsBefore f.heights i.class) vs) (λ i b. b.1) is past) in
+      let one = read_one v is each.0 order
+      (all-onto (λ i. AllByRecursion (IsBefore f.heights i.class) (v ∷ vs)) (λ i. IsBefore f.heights i.class v) (λ i b. b.0)
+      is past) in
+      let later : ArePast f.heights vs (read_class f is v) = read_class_of f (λ w. AllByRecursion (IsBefore f.heights w) vs)
+      v is first (all-onto (λ i. AllByRecursion (IsBefore f.heights i.class) (v ∷ vs))
+      (λ i. AllByRecursion (IsBefore f.heights i.class) vs) (λ i b. b.1) is past) in
       let rest = read_all vs (read_class f is v) each.1 (rise_tail f.heights v vs rises) one.ordered later in
       record {
         ordered = rest.ordered;

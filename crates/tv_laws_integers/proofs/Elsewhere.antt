@@ -1,5 +1,5 @@
--- Where nothing is read the product and a normalized family agree: at class zero both are 1, and at every other class outside a closed
--- list both are 0.
+-- Where nothing is read the product and a normalized family agree: at class zero both are 1, and at every other class outside a
+-- closed list both are 0.
 use Rattle.std.proofs.Common.{◌≡◌, ◌≢◌, ◌⊎◌, inl, inr, Contains, ℕ, zero, suc, ℤ, pos, ◌+ℤ◌, ◌-ℤ◌, ◌≤ℤ◌, true, false, List, [], ◌∷◌, length, Option, Some, None, refl, sym, ◌∙◌, ap, arith}
 use Rattle.std.proofs.lemmas.Int.{ints}
 use Rattle.std.proofs.lemmas.Bool.{and_parts}
@@ -38,10 +38,12 @@ zeros-low : (hs : List ℤ) (m : ℕ) → degree_of hs (zeros m) ≤ℤ pos 0
 zeros-low hs m = let e = degree_zero hs m in omega (arith, ints)
 
 pub katz-zero_unit : (hs : List ℤ) (is : List Integer) (m : ℕ) → katz hs is (zeros m) (pos 0) ≡ pos 1
-katz-zero_unit hs is m = unit_below_one hs is (zeros m) (pos 0) (zeros-low hs m) ∙ unit-one (place hs (zeros m) (pos 0)) (record { degree = degree_zero hs m; class = zero_class-zeros m; exponent = refl })
+katz-zero_unit hs is m = unit_below_one hs is (zeros m) (pos 0) (zeros-low hs m)
+    ∙ unit-one (place hs (zeros m) (pos 0)) (record { degree = degree_zero hs m; class = zero_class-zeros m; exponent = refl })
 
 katz-zero_none : (hs : List ℤ) (is : List Integer) (m : ℕ) (n : ℤ) → n ≢ pos 0 → katz hs is (zeros m) n ≡ pos 0
-katz-zero_none hs is m n other = unit_below_one hs is (zeros m) n (zeros-low hs m) ∙ unit-none (place hs (zeros m) n) (λ is_unit. other is_unit.exponent)
+katz-zero_none hs is m n other = unit_below_one hs is (zeros m) n (zeros-low hs m)
+    ∙ unit-none (place hs (zeros m) n) (λ is_unit. other is_unit.exponent)
 
 pub agrees_zero : (N : ℤ) (f : Family ℤ) (is : List Integer) (n : ℤ) → IsNormalized N f → n ≤ℤ N
     → Agrees f is (zeros (length f.heights)) n
@@ -56,7 +58,8 @@ plus-difference : (v x : List ℤ) → length v ≡ length x → plus (class_dif
 plus-difference [] [] e = refl
 plus-difference [] (y ∷ x) e = absurd (omega arith)
 plus-difference (z ∷ v) [] e = absurd (omega arith)
-plus-difference (z ∷ v) (y ∷ x) e = let back : (z -ℤ y) +ℤ y ≡ z = omega (arith, ints) in rw (back, plus-difference v x (omega arith)) refl
+plus-difference (z ∷ v) (y ∷ x) e = let back : (z -ℤ y) +ℤ y ≡ z = omega (arith, ints) in
+    rw (back, plus-difference v x (omega arith)) refl
 
 zero-difference : (v x : List ℤ) → length v ≡ length x → is_zero_class (class_difference v x) ≡ true → v ≡ x
 zero-difference [] [] e h = refl
@@ -90,7 +93,8 @@ module _ (D : ℕ) (f : Family ℤ) (vs : List (List ℤ)) (closed : IsClosedLis
 
   product-elsewhere : (is : List Integer) (v : List ℤ) (n : ℤ) → AllByRecursion (IsListed vs) is → length v ≡ length f.heights
       → degree_of f.heights v ≤ℤ pos D → (HasPlace vs v → ⊥) → katz f.heights is v n ≡ pos 0
-  product-elsewhere is v n listed entries within none = elsewhere f.heights D (HasPlace vs) is v n (λ u e z. inl z) (all-onto (IsListed vs) (AddsTo f.heights D (HasPlace vs)) listed_adds is listed) entries within none
+  product-elsewhere is v n listed entries within none = elsewhere f.heights D (HasPlace vs) is v n (λ u e z. inl z)
+      (all-onto (IsListed vs) (AddsTo f.heights D (HasPlace vs)) listed_adds is listed) entries within none
 
   -- a class that is neither zero nor listed is not one of the family
   series-elsewhere : (N : ℤ) (v : List ℤ) (n : ℤ) → IsNormalized N f → degree_of f.heights v ≤ℤ pos D → (HasPlace vs v → ⊥)
@@ -102,19 +106,24 @@ module _ (D : ℕ) (f : Family ℤ) (vs : List (List ℤ)) (closed : IsClosedLis
 
       not_found : (x : Row ℤ) → find v f.rows ≡ Some x
           → (x.class ≡ zeros (length f.heights)) ⊎ IsPositiveClass f.heights x.class → ⊥
-      not_found x e (inl zero_class) = none (inl (rw (sym (found_class v f.rows x e) ∙ zero_class) (zero_class-zeros (length f.heights))))
+      not_found x e (inl zero_class) = none
+          (inl (rw (sym (found_class v f.rows x e) ∙ zero_class) (zero_class-zeros (length f.heights))))
       not_found x e (inr positive) =
           let same = found_class v f.rows x e in
-          none (inr (closed.whole v (rw same at (found_all (λ y. Contains (classes f.rows) y.class) v f.rows x listed_rows e)) (record { positive = rw same at positive; within = within })))
+          none (inr (closed.whole v (rw same at (found_all (λ y. Contains (classes f.rows) y.class) v f.rows x listed_rows e))
+          (record { positive = rw same at positive; within = within })))
 
       found : (x : Option (Row ℤ)) → find v f.rows ≡ x → series_coefficient wholes n x ≡ pos 0
       found None e = refl
-      found (Some x) e = absurd (not_found x e (found_all (λ y. (y.class ≡ zeros (length f.heights)) ⊎ IsPositiveClass f.heights y.class) v f.rows x (all_classes (λ w. (w ≡ zeros (length f.heights)) ⊎ IsPositiveClass f.heights w) f.rows normal.others) e))
+      found (Some x) e = absurd (not_found x e
+          (found_all (λ y. (y.class ≡ zeros (length f.heights)) ⊎ IsPositiveClass f.heights y.class) v f.rows x
+          (all_classes (λ w. (w ≡ zeros (length f.heights)) ⊎ IsPositiveClass f.heights w) f.rows normal.others) e))
 
   pub agrees_elsewhere : (N : ℤ) (is : List Integer) (v : List ℤ) (n : ℤ) → IsNormalized N f → AllByRecursion (IsListed vs) is
       → IsCompared D N f v n → (Contains vs v → ⊥) → Agrees f is v n
   agrees_elsewhere N is v n normal listed compared none = bool_cases (is_zero_class v)
-      (λ b. let zero_class : v ≡ zeros (length f.heights) = zero_class_is v b ∙ ap zeros compared.entries in rw zero_class (agrees_zero N f is n normal compared.exponent))
+      (λ b. let zero_class : v ≡ zeros (length f.heights) = zero_class_is v b ∙ ap zeros compared.entries in
+      rw zero_class (agrees_zero N f is n normal compared.exponent))
       (λ b. let out : HasPlace vs v → ⊥ = has_none b in
       product-elsewhere is v n listed compared.entries compared.degree out ∙ sym (series-elsewhere N v n normal compared.degree out))
     where

@@ -30,17 +30,21 @@ pub own_place : (D : ℕ) (f : Family ℤ) (i : Integer) → IsInteger D f.heigh
 own_place D f i is = record { entries = is.positive.entries; degree = is.within; exponent = omega (arith, ints) }
 
 pub only : (D : ℕ) (f : Family ℤ) (is js : List Integer) → AreIntegers D f is → AreIntegers D f js → is ≡ js
-only D f is js first second = only_at f.heights D is js first.ordered second.ordered (agree is first.ordered) (agree js second.ordered)
+only D f is js first second = only_at f.heights D is js first.ordered second.ordered (agree is first.ordered)
+    (agree js second.ordered)
   where
     agree : (ks : List Integer) → AreOrdered D f.heights ks → AllByRecursion (AgreeAt f.heights is js) ks
-    agree ks order = all-onto (IsInteger D f.heights) (AgreeAt f.heights is js) (λ k is. first.agrees k.class (own_exponent k) (own_place D f k is) ∙ sym (second.agrees k.class (own_exponent k) (own_place D f k is))) ks (each_integer D f.heights ks order)
+    agree ks order = all-onto (IsInteger D f.heights) (AgreeAt f.heights is js)
+        (λ k is. first.agrees k.class (own_exponent k) (own_place D f k is)
+        ∙ sym (second.agrees k.class (own_exponent k) (own_place D f k is))) ks (each_integer D f.heights ks order)
 
 -- ---- rising lists in two parts
 
 pub before_back : (hs : List ℤ) (us vs : List (List ℤ)) → ClassesRise hs (us ++ vs)
     → AllByRecursion (λ u. AllByRecursion (IsBefore hs u) vs) us
 before_back hs [] vs rises = tt
-before_back hs (u ∷ us) vs rises = (all-back (IsBefore hs u) us vs (first_before hs u (us ++ vs) rises), before_back hs us vs (rise_tail hs u (us ++ vs) rises))
+before_back hs (u ∷ us) vs rises =
+    (all-back (IsBefore hs u) us vs (first_before hs u (us ++ vs) rises), before_back hs us vs (rise_tail hs u (us ++ vs) rises))
 
 back_rises : (hs : List ℤ) (us vs : List (List ℤ)) → ClassesRise hs (us ++ vs) → ClassesRise hs vs
 back_rises hs [] vs rises = rises
@@ -70,25 +74,38 @@ module _ (D : ℕ) (f : Family ℤ) where
     | inr none ↦ agrees_elsewhere D f vs closed N is v n normal listed compared none
   ]
 
-  module _ (front back : List (List ℤ)) (closed : IsClosedList D f (front ++ back)) (is : List Integer) (begun : IsBegun D f front is) where
+  module _ (front back : List (List ℤ)) (closed : IsClosedList D f (front ++ back))
+      (is : List Integer) (begun : IsBegun D f front is) where
     rest : AreReadOf D f back is (read_classes f is back)
-    rest = read_all D f back is (all-back (IsClassTo D f.heights) front back closed.each) (back_rises f.heights front back closed.rises) begun.ordered
-        (all-onto (IsListed front) (λ i. AllByRecursion (IsBefore f.heights i.class) back) (λ i there. all-contains (λ u. AllByRecursion (IsBefore f.heights u) back) front i.class (before_back f.heights front back closed.rises) there) is begun.listed)
+    rest = read_all D f back is (all-back (IsClassTo D f.heights) front back closed.each)
+        (back_rises f.heights front back closed.rises) begun.ordered
+        (all-onto (IsListed front) (λ i. AllByRecursion (IsBefore f.heights i.class) back)
+        (λ i there. all-contains (λ u. AllByRecursion (IsBefore f.heights u) back) front i.class
+        (before_back f.heights front back closed.rises) there) is begun.listed)
 
     -- the classes of the front keep their product
     pub kept : (u : List ℤ) → Contains front u → (n : ℤ) → katz f.heights (read_classes f is back) u n ≡ katz f.heights is u n
-    kept u there n = rest.same u n (all-contains (λ u. AllByRecursion (IsBefore f.heights u) back) front u (before_back f.heights front back closed.rises) there)
+    kept u there n = rest.same u n (all-contains (λ u. AllByRecursion (IsBefore f.heights u) back) front u
+        (before_back f.heights front back closed.rises) there)
 
     pub all_listed : AllByRecursion (IsListed (front ++ back)) (read_classes f is back)
-    all_listed = read_classes_of f (Contains (front ++ back)) back is (all-back (Contains (front ++ back)) front back (all-members (front ++ back))) (all-onto (IsListed front) (IsListed (front ++ back)) (λ i there. Contains-append_left front back i.class there) is begun.listed)
+    all_listed = read_classes_of f (Contains (front ++ back)) back is
+        (all-back (Contains (front ++ back)) front back (all-members (front ++ back)))
+        (all-onto (IsListed front) (IsListed (front ++ back)) (λ i there. Contains-append_left front back i.class there)
+        is begun.listed)
 
     -- what is read of the back makes them the integers of the family
     pub extends : IsNormalized (pos 1) f → AreIntegers D f (read_classes f is back)
-    extends normal = record { ordered = rest.ordered; agrees = agrees_through (pos 1) (front ++ back) (read_classes f is back) closed normal all_listed at_most_one }
+    extends normal = record {
+      ordered = rest.ordered;
+      agrees = agrees_through (pos 1) (front ++ back) (read_classes f is back)
+          closed normal all_listed at_most_one;
+    }
       where
         at_most_one : AllByRecursion (AgreesThrough (pos 1) f (read_classes f is back)) (front ++ back)
         at_most_one = all-append (AgreesThrough (pos 1) f (read_classes f is back)) front back
-            (all-both (Contains front) (AgreesThrough (pos 1) f is) (AgreesThrough (pos 1) f (read_classes f is back)) (λ u there e n h. kept u there n ∙ e n h) front (all-members front) begun.agrees)
+            (all-both (Contains front) (AgreesThrough (pos 1) f is) (AgreesThrough (pos 1) f (read_classes f is back))
+            (λ u there e n h. kept u there n ∙ e n h) front (all-members front) begun.agrees)
             rest.agrees
 
   pub are_integers : (vs : List (List ℤ)) → IsClosedList D f vs → IsNormalized (pos 1) f → AreIntegers D f (read_classes f [] vs)
@@ -98,4 +115,5 @@ module _ (D : ℕ) (f : Family ℤ) where
   pub integers_listed : (vs : List (List ℤ)) → IsClosedList D f vs → IsNormalized (pos 1) f → (is : List Integer)
       → AreIntegers D f is → AllByRecursion (IsListed vs) is
   integers_listed vs closed normal is are =
-      rw (only D f is (read_classes f [] vs) are (are_integers vs closed normal)) (all_listed [] vs closed [] (record { ordered = tt; listed = tt; agrees = tt }))
+      rw (only D f is (read_classes f [] vs) are (are_integers vs closed normal))
+      (all_listed [] vs closed [] (record { ordered = tt; listed = tt; agrees = tt }))

@@ -1,9 +1,10 @@
 -- What is read of one class: with each genus, from the first one down, the product agrees with the family one exponent further,
 -- and stays the same at all earlier places.
 --
--- IsPast hs v g j == the integer j comes before the class v, or is of that class and of a genus above g
--- IsStep D f v g is more == `more` is `is` after the genus g of v: the integers so far come before (v, g - 1), the product agrees at 1 - g, and is
---                       the same at the earlier places
+-- IsPast hs v g j     == the integer j comes before the class v, or is of that class and of a genus above g
+-- IsSooner hs v g u n == u comes before the class v, or is that class and n is below 1 - g
+-- IsStep D f v g is more == `more` is `is` after the genus g of v: integers of lesser genera may still come, the product agrees at
+--                        1 - g, and is the same at the sooner places
 -- IsDown D f v g is more == `more` is `is` after the genera from g to 0 of v
 use Rattle.std.proofs.Common.{◌≡◌, ◌⊎◌, inl, inr, ℕ, zero, suc, ◌<◌, ◌≤◌, ℤ, pos, ◌-ℤ◌, ◌<ℤ◌, List, ◌∷◌, refl, ◌∙◌, arith}
 use Rattle.std.proofs.lemmas.Int.{ints}
@@ -67,7 +68,8 @@ module _ (D : ℕ) (f : Family ℤ) where
       → IsStep D f v g is (record { class = v; genus = g; value = new_integer f v g is } ∷ is)
   step_some v g is class order past some =
       let i : Integer = record { class = v; genus = g; value = new_integer f v g is } in
-      let ordered : AreOrdered D f.heights (i ∷ is) = (record { positive = class.positive; within = class.within; value = some }, (past, order)) in
+      let ordered : AreOrdered D f.heights (i ∷ is) =
+      (record { positive = class.positive; within = class.within; value = some }, (past, order)) in
       let up = positives D f.heights (i ∷ is) ordered in
       record {
         ordered = ordered;
@@ -93,7 +95,8 @@ module _ (D : ℕ) (f : Family ℤ) where
       record {
         ordered = d.ordered;
         agrees = λ k h. elim (cases_lt g k) as (λ _. Agrees f (read_down f v g (read_genus f v (suc g) is)) v (pos 1 -ℤ pos k)) [
-          | inl first ↦ let z : k ≡ suc g = omega arith in rw z (d.same v (pos 1 -ℤ pos (suc g)) (inr (refl, omega (arith, ints))) ∙ s.agrees)
+          | inl first ↦ let z : k ≡ suc g = omega arith in
+              rw z (d.same v (pos 1 -ℤ pos (suc g)) (inr (refl, omega (arith, ints))) ∙ s.agrees)
           | inr later ↦ d.agrees k (omega arith)
         ];
         same = λ u n h. d.same u n (sooner_below f.heights v g u n h) ∙ s.same u n h;

@@ -36,7 +36,13 @@ conifold_normalized : IsNormalized (pos 1) conifold_series
 conifold_normalized = record {
   unit = conifold_unit;
   none = conifold_none;
-  others = (inl refl, (inr (record { entries = refl; degree = omega (arith, ints) }), (inr (record { entries = refl; degree = omega (arith, ints) }), tt)));
+  others = (
+    inl refl,
+    (
+      inr (record { entries = refl; degree = omega (arith, ints) }),
+      (inr (record { entries = refl; degree = omega (arith, ints) }), tt),
+    ),
+  );
 }
 
 conifold_read : integers 2 conifold_series ≡ conifold_integer
@@ -63,7 +69,13 @@ plane_normalized : IsNormalized (pos 1) plane_series
 plane_normalized = record {
   unit = plane_unit;
   none = plane_none;
-  others = (inl refl, (inr (record { entries = refl; degree = omega (arith, ints) }), (inr (record { entries = refl; degree = omega (arith, ints) }), tt)));
+  others = (
+    inl refl,
+    (
+      inr (record { entries = refl; degree = omega (arith, ints) }),
+      (inr (record { entries = refl; degree = omega (arith, ints) }), tt),
+    ),
+  );
 }
 
 plane_read : integers 2 plane_series ≡ plane_integers
@@ -74,7 +86,8 @@ plane_are : AreIntegers 2 plane_series plane_integers
 plane_are = subst (AreIntegers 2 plane_series) plane_read (integers_are 2 plane_series plane_normalized)
 
 -- so neither the lines alone nor both with one sign are its integers
-not_without_conics : AreIntegers 2 plane_series (record { class = negsuc 2 ∷ pos 1 ∷ pos 1 ∷ pos 1 ∷ []; genus = 0; value = pos 3 } ∷ [])
+not_without_conics : AreIntegers 2 plane_series
+    (record { class = negsuc 2 ∷ pos 1 ∷ pos 1 ∷ pos 1 ∷ []; genus = 0; value = pos 3 } ∷ [])
     → ⊥
 not_without_conics is = let e = only 2 plane_series _ plane_integers is plane_are in cc
 
@@ -82,15 +95,28 @@ not_without_conics is = let e = only 2 plane_series _ plane_integers is plane_ar
 
 -- class zero is 2, and q^3 is added to 1
 doubled : Family ℤ
-doubled = record { heights = pos 1 ∷ []; top = pos 1; upto = pos 1; rows = row (pos 0 ∷ []) (terms (pos 0) (pos 2 ∷ pos 0 ∷ [])) ∷ [] }
+doubled = record {
+  heights = pos 1 ∷ [];
+  top = pos 1;
+  upto = pos 1;
+  rows = row (pos 0 ∷ [])
+      (terms (pos 0) (pos 2 ∷ pos 0 ∷ [])) ∷ [];
+}
 
 late : Family ℤ
-late = record { heights = pos 1 ∷ []; top = pos 1; upto = pos 3; rows = row (pos 0 ∷ []) (terms (pos 0) (pos 1 ∷ pos 0 ∷ pos 0 ∷ pos 1 ∷ [])) ∷ [] }
+late = record {
+  heights = pos 1 ∷ [];
+  top = pos 1;
+  upto = pos 3;
+  rows = row (pos 0 ∷ [])
+      (terms (pos 0) (pos 1 ∷ pos 0 ∷ pos 0 ∷ pos 1 ∷ [])) ∷ [];
+}
 
 no_integers : (is : List Integer) → AreIntegers 1 doubled is → ⊥
 unfolding doubled find coefficient at above
 no_integers is are =
-    let two : katz (pos 1 ∷ []) is (pos 0 ∷ []) (pos 0) ≡ pos 2 = are.agrees (pos 0 ∷ []) (pos 0) (record { entries = refl; degree = omega (arith, ints); exponent = omega (arith, ints) }) in
+    let two : katz (pos 1 ∷ []) is (pos 0 ∷ []) (pos 0) ≡ pos 2 = are.agrees (pos 0 ∷ []) (pos 0)
+    (record { entries = refl; degree = omega (arith, ints); exponent = omega (arith, ints) }) in
     let one = katz-zero_unit (pos 1 ∷ []) is 1 in
     omega (arith, ints)
 

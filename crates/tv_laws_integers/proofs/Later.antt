@@ -17,21 +17,24 @@ later_trans hs i j k (inr a) (inr b) = let first = a.1 in let second = b.1 in in
 
 by_genus : (hs : List ℤ) (i j : Integer) → i.class ≡ j.class
     → ComesLater hs i j ⊎ (((i.class ≡ j.class) × (i.genus ≡ j.genus)) ⊎ ComesLater hs j i)
-by_genus hs i j e = elim (cases_lt i.genus j.genus) as (λ _. ComesLater hs i j ⊎ (((i.class ≡ j.class) × (i.genus ≡ j.genus)) ⊎ ComesLater hs j i)) [
-  | inl less ↦ inl (inr (e, less))
-  | inr more ↦ elim (cases_lt j.genus i.genus) as (λ _. ComesLater hs i j ⊎ (((i.class ≡ j.class) × (i.genus ≡ j.genus)) ⊎ ComesLater hs j i)) [
-    | inl less ↦ inr (inr (inr (sym e, less)))
-    | inr also ↦ inr (inl (e, omega arith))
-  ]
-]
+by_genus hs i j e = elim (cases_lt i.genus j.genus) as
+    (λ _. ComesLater hs i j ⊎ (((i.class ≡ j.class) × (i.genus ≡ j.genus)) ⊎ ComesLater hs j i)) [
+      | inl less ↦ inl (inr (e, less))
+      | inr more ↦ elim (cases_lt j.genus i.genus) as
+          (λ _. ComesLater hs i j ⊎ (((i.class ≡ j.class) × (i.genus ≡ j.genus)) ⊎ ComesLater hs j i)) [
+            | inl less ↦ inr (inr (inr (sym e, less)))
+            | inr also ↦ inr (inl (e, omega arith))
+          ]
+    ]
 
 pub later_total : (hs : List ℤ) (i j : Integer) → length i.class ≡ length j.class
     → ComesLater hs i j ⊎ (((i.class ≡ j.class) × (i.genus ≡ j.genus)) ⊎ ComesLater hs j i)
-later_total hs i j e = elim (before_total hs i.class j.class e) as (λ _. ComesLater hs i j ⊎ (((i.class ≡ j.class) × (i.genus ≡ j.genus)) ⊎ ComesLater hs j i)) [
-  | inl before ↦ inr (inr (inl before))
-  | inr (inl same) ↦ by_genus hs i j same
-  | inr (inr after) ↦ inl (inl after)
-]
+later_total hs i j e = elim (before_total hs i.class j.class e) as
+    (λ _. ComesLater hs i j ⊎ (((i.class ≡ j.class) × (i.genus ≡ j.genus)) ⊎ ComesLater hs j i)) [
+      | inl before ↦ inr (inr (inl before))
+      | inr (inl same) ↦ by_genus hs i j same
+      | inr (inr after) ↦ inl (inl after)
+    ]
 
 pub later_all : (hs : List ℤ) (i j : Integer) (is : List Integer) → ComesLater hs i j → AllByRecursion (ComesLater hs j) is
     → AllByRecursion (ComesLater hs i) is

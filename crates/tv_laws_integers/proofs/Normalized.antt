@@ -31,7 +31,8 @@ bound w = sum_of (entries_sum w) (compact w)
 bounded : (w : Web) → AllByRecursion (λ e. AreAtMost (bound w) (edge_class w e)) (compact w)
 unfolding entries_sum bound
 bounded w = all-onto (λ e. sum_of unsigned_abs (edge_class w e) ≤ bound w) (λ e. AreAtMost (bound w) (edge_class w e))
-    (λ e h. all-onto (λ x. unsigned_abs x ≤ sum_of unsigned_abs (edge_class w e)) (λ x. unsigned_abs x ≤ bound w) (λ x k. omega arith) (edge_class w e) (sum_of-each unsigned_abs (edge_class w e)))
+    (λ e h. all-onto (λ x. unsigned_abs x ≤ sum_of unsigned_abs (edge_class w e)) (λ x. unsigned_abs x ≤ bound w)
+    (λ x k. omega arith) (edge_class w e) (sum_of-each unsigned_abs (edge_class w e)))
     (compact w) (sum_of-each (entries_sum w) (compact w))
 
 -- a class that is there is found
@@ -44,7 +45,8 @@ not_lost v (x ∷ rows) there e = bool_cases (same_vector x.class v)
       | inr later ↦ not_lost v rows later (sym (find-next v x rows b) ∙ e)
     ])
 
-module _ (w : Web) (d : ℕ) (n : ℤ) (f : Family ℤ) (graded : IsGraded w) (each : length w.heights ≡ length w.points) (up : pos 0 ≤ℤ n) (is : IsReducedFamily wholes w (no_legs w) d n f) where
+module _ (w : Web) (d : ℕ) (n : ℤ) (f : Family ℤ) (graded : IsGraded w)
+    (each : length w.heights ≡ length w.points) (up : pos 0 ≤ℤ n) (is : IsReducedFamily wholes w (no_legs w) d n f) where
   facts : HasReducedClasses wholes w (bound w) n f
   facts = reduced_classes whole_laws w (bound w) d n f graded (bounded w) is
 
@@ -52,7 +54,8 @@ module _ (w : Web) (d : ℕ) (n : ℤ) (f : Family ℤ) (graded : IsGraded w) (e
   one_each = ap length is.heights ∙ each
 
   zero_is_one : (x : Row ℤ) → find (zeros (length w.points)) f.rows ≡ Some x → IsOne wholes n x.series
-  zero_is_one x e = found_all (λ y. y.class ≡ zeros (length w.points) → IsOne wholes n y.series) (zeros (length w.points)) f.rows x facts.one e (found_class (zeros (length w.points)) f.rows x e)
+  zero_is_one x e = found_all (λ y. y.class ≡ zeros (length w.points) → IsOne wholes n y.series) (zeros (length w.points))
+      f.rows x facts.one e (found_class (zeros (length w.points)) f.rows x e)
 
   -- what holds of every series that is one holds of that of class zero
   of_zero : (P : ℤ → Type 0) (m : ℤ) → ((x : Row ℤ) → IsOne wholes n x.series → P (coefficient wholes x.series m))
@@ -74,5 +77,7 @@ module _ (w : Web) (d : ℕ) (n : ℤ) (f : Family ℤ) (graded : IsGraded w) (e
   reduced_normalized = record {
     unit = rw one_each (of_zero (λ z. z ≡ pos 1) (pos 0) (λ x one. one.unit up));
     none = λ m h other. rw one_each (of_zero (λ z. z ≡ pos 0) m (λ x one. one.others m h other));
-    others = all-both (IsClass w d) (λ v. (v ≡ zeros (length w.points)) ⊎ (pos 0 <ℤ degree_of w.heights v)) (λ v. (v ≡ zeros (length f.heights)) ⊎ IsPositiveClass f.heights v) class_of_row (classes f.rows) is.classes.each facts.others;
+    others = all-both (IsClass w d) (λ v. (v ≡ zeros (length w.points)) ⊎ (pos 0 <ℤ degree_of w.heights v))
+        (λ v. (v ≡ zeros (length f.heights)) ⊎ IsPositiveClass f.heights v) class_of_row (classes f.rows)
+        is.classes.each facts.others;
   }

@@ -34,7 +34,8 @@ module _ (D : ℕ) (f : Family ℤ) (c : ℕ) (begins : BeginsAbove D f c) where
   without_last : (i : Integer) (is : List Integer) → AreOrdered D f.heights (i ∷ is) → AllByRecursion (OwnAgrees f (i ∷ is)) is
       → AllByRecursion (OwnAgrees f is) is
   without_last i is order all = all-both (ComesLater f.heights i) (OwnAgrees f (i ∷ is)) (OwnAgrees f is)
-      (λ k b e. sym (unchanged f.heights i is k.class (own_exponent k) (positives D f.heights (i ∷ is) order) (earlier_place f.heights i k b)) ∙ e) is order.1.0 all
+      (λ k b e. sym (unchanged f.heights i is k.class (own_exponent k) (positives D f.heights (i ∷ is) order)
+      (earlier_place f.heights i k b)) ∙ e) is order.1.0 all
 
   last_within : (i : Integer) (is : List Integer) → AreOrdered D f.heights (i ∷ is) → OwnAgrees f (i ∷ is) i
       → AllByRecursion (IsWithinSlope f.heights c) is → IsWithinSlope f.heights c i
@@ -56,7 +57,9 @@ module _ (D : ℕ) (f : Family ℤ) (c : ℕ) (begins : BeginsAbove D f c) where
       (last_within i is order all.0 rest, rest)
 
   pub integers_within : (is : List Integer) → AreIntegers D f is → AllByRecursion (IsWithinSlope f.heights c) is
-  integers_within is are = within_by is are.ordered (all-onto (IsInteger D f.heights) (OwnAgrees f is) (λ k i. are.agrees k.class (own_exponent k) (own_place D f k i)) is (each_integer D f.heights is are.ordered))
+  integers_within is are = within_by is are.ordered
+      (all-onto (IsInteger D f.heights) (OwnAgrees f is) (λ k i. are.agrees k.class (own_exponent k) (own_place D f k i)) is
+      (each_integer D f.heights is are.ordered))
 
 -- ---- and the series within that of the integers
 
@@ -64,8 +67,10 @@ pub series_within : (D : ℕ) (f : Family ℤ) (c : ℕ) (is : List Integer) →
     → AllByRecursion (IsWithinSlope f.heights c) is → BeginsAbove D f c
 series_within D f c is are within v n class low =
     let up = class.positive.degree in
-    let weight : pos 0 ≤ℤ (pos c *ℤ degree_of f.heights v) = mul-nonneg-nonneg (pos c) (degree_of f.heights v) (omega (arith, ints)) (omega (arith, ints)) in
-    sym (are.agrees v n (record { entries = class.positive.entries; degree = class.within; exponent = omega (arith, ints) })) ∙ vanishes_by_slope f.heights c is v n within low
+    let weight : pos 0 ≤ℤ (pos c *ℤ degree_of f.heights v) = mul-nonneg-nonneg (pos c) (degree_of f.heights v)
+    (omega (arith, ints)) (omega (arith, ints)) in
+    sym (are.agrees v n (record { entries = class.positive.entries; degree = class.within; exponent = omega (arith, ints) }))
+    ∙ vanishes_by_slope f.heights c is v n within low
 
 -- ---- the greatest slope is the least number with that
 
@@ -90,7 +95,8 @@ module _ (hs : List ℤ) (c : ℕ) (i : Integer) (positive : IsPositive hs i) wh
   product = ap (λ z. pos c *ℤ z) degree
 
   slope-most : IsWithinSlope hs c i → slope_of hs i ≤ c
-  slope-most within = let slope = within.slope in rounded_up-most (i.genus - 1) (natural (degree_of hs i.class)) c (omega (arith, ints, degree)) (omega (arith, ints, product))
+  slope-most within = let slope = within.slope in
+      rounded_up-most (i.genus - 1) (natural (degree_of hs i.class)) c (omega (arith, ints, degree)) (omega (arith, ints, product))
 
   slope-least : slope_of hs i ≤ c → IsWithinSlope hs c i
   slope-least h =

@@ -14,7 +14,8 @@ module _ (hs v : List ℤ) where
   -- what an insertion does is shown at no class, at an earlier one, at the class itself, and at a later one
   insert_cases : (P : List (List ℤ) → List (List ℤ) → Type 0) →
       P [] (v ∷ []) →
-      ((u : List ℤ) (us : List (List ℤ)) → comes_before hs u v ≡ true → P us (insert_class hs v us) → P (u ∷ us) (u ∷ insert_class hs v us)) →
+      ((u : List ℤ) (us : List (List ℤ)) → comes_before hs u v ≡ true → P us (insert_class hs v us) → P (u ∷ us)
+      (u ∷ insert_class hs v us)) →
       ((u : List ℤ) (us : List (List ℤ)) → u ≡ v → P (u ∷ us) (u ∷ us)) →
       ((u : List ℤ) (us : List (List ℤ)) → comes_before hs u v ≡ false → same_vector u v ≡ false → P (u ∷ us) (v ∷ u ∷ us)) →
       (us : List (List ℤ)) → P us (insert_class hs v us)
@@ -43,13 +44,16 @@ module _ (hs v : List ℤ) where
         ]
       ])
       (λ u us e h. elim h as (λ _. Contains (u ∷ us) w) [ inl s ↦ contains-head w u us (e ∙ sym s) | inr k ↦ k ])
-      (λ u us b e h. elim h as (λ _. Contains (v ∷ u ∷ us) w) [ inl s ↦ contains-head w v (u ∷ us) (sym s) | inr k ↦ contains-later w v (u ∷ us) k ])
+      (λ u us b e h. elim h as (λ _. Contains (v ∷ u ∷ us) w)
+      [ inl s ↦ contains-head w v (u ∷ us) (sym s) | inr k ↦ contains-later w v (u ∷ us) k ])
 
   insert_rises : (us : List (List ℤ)) → AllByRecursion (λ u. length u ≡ length v) us → ClassesRise hs us
       → ClassesRise hs (insert_class hs v us)
   insert_rises = insert_cases (λ us more. AllByRecursion (λ u. length u ≡ length v) us → ClassesRise hs us → ClassesRise hs more)
       (λ each rises. tt)
-      (λ u us b rest each rises. rise_onto hs u (insert_class hs v us) (all_insert (IsBefore hs u) (comes_before_tells hs u v b) us (first_before hs u us rises)) (rest each.1 (rise_tail hs u us rises)))
+      (λ u us b rest each rises. rise_onto hs u (insert_class hs v us)
+      (all_insert (IsBefore hs u) (comes_before_tells hs u v b) us (first_before hs u us rises))
+      (rest each.1 (rise_tail hs u us rises)))
       (λ u us e each rises. rises)
       (λ u us b e each rises. (after_from hs u v each.0 b e, rises))
 
@@ -67,4 +71,6 @@ contains_sorted hs w (v ∷ vs) h = elim (contains-cases w v vs h) as (λ _. Con
 pub sorted_rises : (hs : List ℤ) (n : ℕ) (vs : List (List ℤ)) → AllByRecursion (λ v. length v ≡ n) vs
     → ClassesRise hs (sorted hs vs)
 sorted_rises hs n [] each = tt
-sorted_rises hs n (v ∷ vs) each = insert_rises hs v (sorted hs vs) (all_sorted hs (λ u. length u ≡ length v) vs (all-onto (λ u. length u ≡ n) (λ u. length u ≡ length v) (λ u e. e ∙ sym each.0) vs each.1)) (sorted_rises hs n vs each.1)
+sorted_rises hs n (v ∷ vs) each = insert_rises hs v (sorted hs vs)
+    (all_sorted hs (λ u. length u ≡ length v) vs
+    (all-onto (λ u. length u ≡ n) (λ u. length u ≡ length v) (λ u e. e ∙ sym each.0) vs each.1)) (sorted_rises hs n vs each.1)

@@ -1,9 +1,9 @@
--- How a loop reads: one genus after another from any bound on, and one class after another. Where each series begins at - c * degree or
--- above, the bound is c * degree + 1.
+-- How a loop reads: one genus after another from any bound on, and one class after another. Where each series begins at
+-- - c * degree or above, the bound is c * degree + 1.
 --
--- IsReadTo D f v top left is more == `more` is `is` after the genera of v from `top` down to `left`: in order, later ones may still come, the
---                           product agrees at 1 - k for each of these genera k, and is the same at the places before them
--- read_none, read_next, read_whole  before the first one, after one more, and after all
+-- IsReadTo D f v top left is more == `more` is `is` after the genera of v from `top` down to `left`: integers of lesser genera may
+--                           still come, the product agrees at 1 - k for each of these genera k, and is the same at sooner places
+-- read_none, read_next, read_whole  before the first genus, after one more, and after all
 -- begun_none, begun_next    before the first class, and after one more
 -- begun_within              the integers so far are within the slope of the series
 -- through_next              where the product agrees through N, it still does so after one more class
@@ -87,12 +87,15 @@ begun_none D f = record { ordered = tt; listed = tt; agrees = tt }
 pub begun_within : (D : ℕ) (f : Family ℤ) (c : ℕ) (read : List (List ℤ)) (is : List Integer) → BeginsAbove D f c
     → IsBegun D f read is → AllByRecursion (IsWithinSlope f.heights c) is
 begun_within D f c read is begins begun = within_by D f c begins is begun.ordered
-    (all-onto (IsListed read) (OwnAgrees f is) (λ i there. all-contains (AgreesThrough (pos 1) f is) read i.class begun.agrees there (pos 1 -ℤ pos i.genus) (omega (arith, ints))) is begun.listed)
+    (all-onto (IsListed read) (OwnAgrees f is)
+    (λ i there. all-contains (AgreesThrough (pos 1) f is) read i.class begun.agrees there (pos 1 -ℤ pos i.genus)
+    (omega (arith, ints))) is begun.listed)
 
 pub through_next : (D : ℕ) (N : ℤ) (f : Family ℤ) (v : List ℤ) (front : List (List ℤ)) (is more : List Integer)
     → AllByRecursion (λ u. IsBefore f.heights u v) front → IsReadOf D f v is more → AllByRecursion (AgreesThrough N f is) front
     → AllByRecursion (AgreesThrough N f more) front
-through_next D N f v front is more before of all = all-both (λ u. IsBefore f.heights u v) (AgreesThrough N f is) (AgreesThrough N f more) (λ u b through n h. of.same u n b ∙ through n h) front before all
+through_next D N f v front is more before of all = all-both (λ u. IsBefore f.heights u v) (AgreesThrough N f is)
+    (AgreesThrough N f more) (λ u b through n h. of.same u n b ∙ through n h) front before all
 
 pub begun_next : (D : ℕ) (f : Family ℤ) (v : List ℤ) (front : List (List ℤ)) (is more : List Integer)
     → AllByRecursion (λ u. IsBefore f.heights u v) front → IsBegun D f front is → IsReadOf D f v is more
@@ -100,6 +103,9 @@ pub begun_next : (D : ℕ) (f : Family ℤ) (v : List ℤ) (front : List (List �
     → IsBegun D f (front ++ (v ∷ [])) more
 begun_next D f v front is more before begun of listed = record {
   ordered = of.ordered;
-  listed = listed (front ++ (v ∷ [])) (Contains-append_right front (v ∷ []) v (contains-head v v [] refl)) (all-onto (IsListed front) (IsListed (front ++ (v ∷ []))) (λ i there. Contains-append_left front (v ∷ []) i.class there) is begun.listed);
-  agrees = all-append (AgreesThrough (pos 1) f more) front (v ∷ []) (through_next D (pos 1) f v front is more before of begun.agrees) (of.agrees, tt);
+  listed = listed (front ++ (v ∷ [])) (Contains-append_right front (v ∷ []) v (contains-head v v [] refl))
+      (all-onto (IsListed front) (IsListed (front ++ (v ∷ []))) (λ i there. Contains-append_left front (v ∷ []) i.class there)
+      is begun.listed);
+  agrees = all-append (AgreesThrough (pos 1) f more) front (v ∷ [])
+      (through_next D (pos 1) f v front is more before of begun.agrees) (of.agrees, tt);
 }

@@ -62,19 +62,29 @@ module _ (hs : List ℤ) (vs : List (List ℤ)) (each : AllByRecursion (IsPositi
   with_each n are u positive = all-map (IsSum n hs) (IsSum (suc n) hs) (plus u) (λ v is. one_more n u v positive is) (Many n) are
 
   pub sums_are : (n : ℕ) → AllByRecursion (IsSum n hs) (sums n vs hs)
-  sums_are zero = (record { entries = length-zeros (length hs); degree = let e = degree_zero hs (length hs) in omega (arith, ints) }, tt)
-  sums_are (suc n) = all-flat_map (IsPositiveClass hs) (IsSum (suc n) hs) (λ u. map (plus u) (Many n)) (with_each n (sums_are n)) vs each
+  sums_are zero = (
+    record {
+      entries = length-zeros (length hs);
+      degree = let e = degree_zero hs (length hs) in
+          omega (arith, ints);
+    },
+    tt,
+  )
+  sums_are (suc n) = all-flat_map (IsPositiveClass hs) (IsSum (suc n) hs) (λ u. map (plus u) (Many n))
+      (with_each n (sums_are n)) vs each
 
   pub sum_is : (n : ℕ) (v : List ℤ) → Contains (sums n vs hs) v → IsSum n hs v
   sum_is n v there = all-contains (IsSum n hs) (Many n) v (sums_are n) there
 
   more_sum : (n : ℕ) (u v : List ℤ) → Contains vs u → Contains (Many n) v → Contains (Many (suc n)) (plus u v)
-  more_sum n u v listed there = contains-flat_map (λ t. map (plus t) (Many n)) u (plus u v) vs listed (contains-map (plus u) v (Many n) there)
+  more_sum n u v listed there = contains-flat_map (λ t. map (plus t) (Many n)) u (plus u v) vs listed
+      (contains-map (plus u) v (Many n) there)
 
   pub sum_of_one : (v : List ℤ) → Contains vs v → Contains (sums 1 vs hs) v
   sum_of_one v listed =
       let entries = (all-contains (IsPositiveClass hs) vs v each listed).entries in
-      rw (plus-none v (length hs) entries) at (more_sum 0 v (zeros (length hs)) listed (contains-head (zeros (length hs)) (zeros (length hs)) [] refl))
+      rw (plus-none v (length hs) entries) at
+      (more_sum 0 v (zeros (length hs)) listed (contains-head (zeros (length hs)) (zeros (length hs)) [] refl))
 
   abbrev AddsUp : ℕ → ℕ → List ℤ → Type 0
   AddsUp m n u = (v : List ℤ) → Contains (Many m) v → Contains (Many (n + m)) (plus u v)
@@ -95,7 +105,9 @@ module _ (hs : List ℤ) (vs : List (List ℤ)) (each : AllByRecursion (IsPositi
 
   all_add : (m n : ℕ) → AllByRecursion (AddsUp m n) (Many n)
   all_add m zero = (adds_none m, tt)
-  all_add m (suc n) = all-flat_map (Contains vs) (AddsUp m (suc n)) (λ u. map (plus u) (Many n)) (add_each m n (all_add m n)) vs (all-members vs)
+  all_add m (suc n) = all-flat_map (Contains vs) (AddsUp m (suc n)) (λ u. map (plus u) (Many n)) (add_each m n (all_add m n)) vs
+      (all-members vs)
 
-  pub sums_add : (m n : ℕ) (u v : List ℤ) → Contains (sums n vs hs) u → Contains (sums m vs hs) v → Contains (sums (n + m) vs hs) (plus u v)
+  pub sums_add : (m n : ℕ) (u v : List ℤ) → Contains (sums n vs hs) u → Contains (sums m vs hs) v → Contains
+      (sums (n + m) vs hs) (plus u v)
   sums_add m n u v first second = all-contains (AddsUp m n) (Many n) u (all_add m n) first v second

@@ -30,7 +30,10 @@ plane_ordered = (
   record { positive = record { entries = refl; degree = omega (arith, ints) }; within = omega (arith, ints); value = λ e. cc },
   (
     (inl (inl (omega (arith, ints))), tt),
-    (record { positive = record { entries = refl; degree = omega (arith, ints) }; within = omega (arith, ints); value = λ e. cc }, (tt, tt)),
+    (
+      record { positive = record { entries = refl; degree = omega (arith, ints) }; within = omega (arith, ints); value = λ e. cc },
+      (tt, tt),
+    ),
   ),
 )
 
@@ -40,17 +43,24 @@ genera_ordered = (
   record { positive = record { entries = refl; degree = omega (arith, ints) }; within = omega (arith, ints); value = λ e. cc },
   (
     (inr (refl, omega arith), tt),
-    (record { positive = record { entries = refl; degree = omega (arith, ints) }; within = omega (arith, ints); value = λ e. cc }, (tt, tt)),
+    (
+      record { positive = record { entries = refl; degree = omega (arith, ints) }; within = omega (arith, ints); value = λ e. cc },
+      (tt, tt),
+    ),
   ),
 )
 
 -- of two classes of one degree the one with the greater first entry
-entries_ordered : AreOrdered 1 (pos 1 ∷ pos 1 ∷ []) (integer (pos 1 ∷ pos 0 ∷ []) 0 (pos 1) ∷ integer (pos 0 ∷ pos 1 ∷ []) 0 (pos 1) ∷ [])
+entries_ordered : AreOrdered 1 (pos 1 ∷ pos 1 ∷ [])
+    (integer (pos 1 ∷ pos 0 ∷ []) 0 (pos 1) ∷ integer (pos 0 ∷ pos 1 ∷ []) 0 (pos 1) ∷ [])
 entries_ordered = (
   record { positive = record { entries = refl; degree = omega (arith, ints) }; within = omega (arith, ints); value = λ e. cc },
   (
     (inl (inr (refl, inl (omega (arith, ints)))), tt),
-    (record { positive = record { entries = refl; degree = omega (arith, ints) }; within = omega (arith, ints); value = λ e. cc }, (tt, tt)),
+    (
+      record { positive = record { entries = refl; degree = omega (arith, ints) }; within = omega (arith, ints); value = λ e. cc },
+      (tt, tt),
+    ),
   ),
 )
 
@@ -98,7 +108,9 @@ made_up_agrees [] n c = let few : 0 ≡ 1 = c.entries in absurd (omega (arith, f
 made_up_agrees (negsuc x ∷ []) n c = agrees_below_zero x n
 made_up_agrees (pos zero ∷ []) n c = let h = c.exponent in agrees_at_zero n (omega (arith, ints))
 made_up_agrees (pos (suc zero) ∷ []) n c = let h = c.exponent in agrees_below_two n (omega (arith, ints))
-made_up_agrees (pos (suc (suc x)) ∷ []) n c = let low : degree_of one (pos (suc (suc x)) ∷ []) ≤ℤ pos 1 = c.degree in absurd (omega (arith, ints))
+made_up_agrees (pos (suc (suc x)) ∷ []) n c =
+    let low : degree_of one (pos (suc (suc x)) ∷ []) ≤ℤ pos 1 = c.degree in
+    absurd (omega (arith, ints))
 made_up_agrees (x ∷ y ∷ v) n c = let many : suc (suc (length v)) ≡ 1 = c.entries in absurd (omega (arith, many))
 
 -- it is normalized as far as it is known
@@ -116,7 +128,11 @@ made_up_none (pos (suc (suc (suc zero)))) h other = refl
 made_up_none (pos (suc (suc (suc (suc n))))) h other = absurd (omega (arith, ints))
 
 made_up_normalized : IsNormalized (pos 3) made_up
-made_up_normalized = record { unit = made_up_unit; none = made_up_none; others = (inl refl, (inr (record { entries = refl; degree = omega (arith, ints) }), tt)) }
+made_up_normalized = record {
+  unit = made_up_unit;
+  none = made_up_none;
+  others = (inl refl, (inr (record { entries = refl; degree = omega (arith, ints) }), tt));
+}
 
 -- through exponent 1 it has no integers
 made_up_are_integers : AreIntegers 1 made_up []
