@@ -9,6 +9,7 @@ pub mod Mismatches
 pub mod Sorted
 pub mod SumsOfClasses
 pub mod Candidates
+pub mod Closing
 pub mod Proved
 mod IntegerValues
 pub mod Normalized

@@ -9,7 +9,7 @@ use Rattle.tv_spec_boxes.specs.Classes.{IsBefore}
 use Rattle.tv_spec_series.specs.Families.{Family}
 use Rattle.tv_spec_series.proofs.Order.{before_strict, before_trans, before_apart}
 use Rattle.tv_spec_katz.specs.Katz.{Integer}
-use Rattle.tv_spec_katz.specs.Integers.{Differs, IsCompared, IsMismatch, read_classes}
+use Rattle.tv_spec_katz.specs.Integers.{Agrees, Differs, IsCompared, IsMismatch, read_classes}
 use Rattle.tv_spec_katz.specs.Relations.{AreIntegers, IsNormalized, HasMismatch}
 use Rattle.tv_laws_integers.specs.Closed.{IsClassTo, IsClosedList}
 use Rattle.tv_laws_integers.specs.Reading.{AgreesThrough, IsBegun, IsSeen}
@@ -45,6 +45,13 @@ pub only_mismatch : (D : ℕ) (N : ℤ) (f : Family ℤ) (v u : List ℤ) (n m :
     → (v ≡ u) × (n ≡ m)
 only_mismatch D N f v u n m first second = same_mismatch D N f first.integers v u n m first.mismatch
     (mismatch_of D N f first.integers u m first.are second)
+
+-- and none of a family that agrees with the product over its integers through N
+pub none_where_agreed : (D : ℕ) (N : ℤ) (f : Family ℤ) (is : List Integer) → AreIntegers D f is
+    → ((v : List ℤ) (n : ℤ) → IsCompared D N f v n → Agrees f is v n) → (v : List ℤ) (n : ℤ) → HasMismatch D N f v n → ⊥
+none_where_agreed D N f is are all v n has =
+    let mismatch = mismatch_of D N f is v n are has in
+    mismatch.differs (all v n mismatch.compared)
 
 -- ---- it is seen when its class is read
 

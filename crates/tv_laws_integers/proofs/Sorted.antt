@@ -26,14 +26,14 @@ module _ (hs v : List ℤ) where
       (λ e. rw (b, e) (here u us (same_vector_tells u v e)))
       (λ e. rw (b, e) (later u us b e)))
 
-  all_insert : (P : List ℤ → Type 0) → P v → (us : List (List ℤ)) → AllByRecursion P us → AllByRecursion P (insert_class hs v us)
+  pub all_insert : (P : List ℤ → Type 0) → P v → (us : List (List ℤ)) → AllByRecursion P us → AllByRecursion P (insert_class hs v us)
   all_insert P p = insert_cases (λ us more. AllByRecursion P us → AllByRecursion P more)
       (λ all. (p, tt))
       (λ u us b rest all. (all.0, rest all.1))
       (λ u us e all. all)
       (λ u us b e all. (p, all))
 
-  contains_insert : (w : List ℤ) (us : List (List ℤ)) → (w ≡ v) ⊎ Contains us w → Contains (insert_class hs v us) w
+  pub contains_insert : (w : List ℤ) (us : List (List ℤ)) → (w ≡ v) ⊎ Contains us w → Contains (insert_class hs v us) w
   contains_insert w = insert_cases (λ us more. (w ≡ v) ⊎ Contains us w → Contains more w)
       (λ h. elim h as (λ _. Contains (v ∷ []) w) [ inl e ↦ contains-head w v [] (sym e) | inr k ↦ contains-later w v [] k ])
       (λ u us b rest h. elim h as (λ _. Contains (u ∷ insert_class hs v us) w) [
@@ -47,7 +47,7 @@ module _ (hs v : List ℤ) where
       (λ u us b e h. elim h as (λ _. Contains (v ∷ u ∷ us) w)
       [ inl s ↦ contains-head w v (u ∷ us) (sym s) | inr k ↦ contains-later w v (u ∷ us) k ])
 
-  insert_rises : (us : List (List ℤ)) → AllByRecursion (λ u. length u ≡ length v) us → ClassesRise hs us
+  pub insert_rises : (us : List (List ℤ)) → AllByRecursion (λ u. length u ≡ length v) us → ClassesRise hs us
       → ClassesRise hs (insert_class hs v us)
   insert_rises = insert_cases (λ us more. AllByRecursion (λ u. length u ≡ length v) us → ClassesRise hs us → ClassesRise hs more)
       (λ each rises. tt)

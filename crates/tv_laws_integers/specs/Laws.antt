@@ -16,6 +16,7 @@
 -- MismatchFirst      == a mismatch of a normalized family is the first place at which it differs from the product over what is
 --                       read off it
 -- MismatchOnly       == a family has at most one mismatch
+-- NoMismatch         == it has none where the product over its integers agrees with it at all classes of degree at most D through N
 -- MismatchSeen       == it is seen as soon as the classes up to its own are read
 use Rattle.std.specs.Prelude.{◌≡◌, Contains, ℕ, ◌≤◌, ℤ, pos, ◌≤ℤ◌, List, ◌++◌, length}
 use Rattle.std.specs.List.{AllByRecursion}
@@ -76,6 +77,10 @@ MismatchFirst = (D : ℕ) (N : ℤ) (f : Family ℤ) (v : List ℤ) (n : ℤ) �
 abbrev pub MismatchOnly : Type 0
 MismatchOnly = (D : ℕ) (N : ℤ) (f : Family ℤ) (v u : List ℤ) (n m : ℤ)
     → HasMismatch D N f v n → HasMismatch D N f u m → (v ≡ u) × (n ≡ m)
+
+abbrev pub NoMismatch : Type 0
+NoMismatch = (D : ℕ) (N : ℤ) (f : Family ℤ) (is : List Integer) → AreIntegers D f is
+    → ((v : List ℤ) (n : ℤ) → IsCompared D N f v n → Agrees f is v n) → (v : List ℤ) (n : ℤ) → HasMismatch D N f v n → ⊥
 
 abbrev pub MismatchSeen : Type 0
 MismatchSeen = (D : ℕ) (N : ℤ) (f : Family ℤ) (read back : List (List ℤ)) (is : List Integer) (v : List ℤ) (n : ℤ) → pos 1 ≤ℤ N

@@ -3,7 +3,7 @@
 //! in order and has the classes of the family and, with any two of its classes, their sum.
 
 ghost use Rattle.tv_laws_integers.specs.Laws.{ReducedNormalized, IntegersAre, IntegersOnly, OnlyWhereTheyBegin, IntegersListed};
-ghost use Rattle.tv_laws_integers.specs.Laws.{IntegersGoOn, AgreeEverywhere, SlopeOfSeries, MismatchFirst, MismatchOnly, MismatchSeen};
+ghost use Rattle.tv_laws_integers.specs.Laws.{IntegersGoOn, AgreeEverywhere, SlopeOfSeries, MismatchFirst, MismatchOnly, NoMismatch, MismatchSeen};
 
 /// The reduced family of a graded web that has a height for each point and no diagrams on its open edges is normalized.
 pub fn reduced_is_normalized()
@@ -57,6 +57,11 @@ pub fn mismatch_first()
 /// A family has at most one mismatch.
 pub fn mismatch_only()
     ensures { MismatchOnly }
+{}
+
+/// It has none where product and family agree at all classes of degree at most D, through N.
+pub fn no_mismatch()
+    ensures { NoMismatch }
 {}
 
 /// Where the classes of a closed list are read in order and compared through N, it is the first difference.
