@@ -1,9 +1,9 @@
 -- How a closed list is made: degree by degree, with the sums of two classes that have that degree.
 --
--- IsClosedTo D f d vs     == classes of degree 1 to D, in order, with those of the family and, with any two of them, their sum where its
---                            degree is at most d
--- IsNextOf D f d vs more  == `more` has the classes of vs, each sum of two of them that has the degree d + 1, and no others but of that
---                            degree; in order
+-- IsClosedTo D f d vs    == classes of degree 1 to D, in order, with those of the family and, with any two of them, their sum
+--                           where its degree is at most d
+-- IsNextOf D f d vs more == `more` has the classes of vs and each sum of two of them that has the degree d + 1, and no others but
+--                           of that degree; in order
 -- closed_first, closed_next, closed_whole  before the degree 2, after one more degree, and after D
 use Rattle.std.proofs.Common.{◌≡◌, ◌⊎◌, inl, inr, Contains, ℕ, suc, ◌≤◌, ℤ, pos, ◌≤ℤ◌, ◌<ℤ◌, List, arith}
 use Rattle.std.proofs.lemmas.Int.{ints, by_lt_z}
