@@ -3,3 +3,4 @@ mod Values
 mod StepValues
 mod IntegerValues
 mod MadeUp
+mod RelationValues

@@ -18,10 +18,10 @@ use Rattle.tv_spec_katz.specs.Integers.{integers, candidates, Agrees, Differs, I
 abbrev heights : List ℤ
 heights = pos 1 ∷ []
 
-abbrev curve : List ℤ
+abbrev pub curve : List ℤ
 curve = pos 1 ∷ []
 
-abbrev made_up : Family ℤ
+abbrev pub made_up : Family ℤ
 made_up = record {
   heights = heights;
   top = pos 1;
@@ -39,11 +39,11 @@ none true = refl
 none false = refl
 
 -- the product is 1 at class zero and exponent 0, and 0 elsewhere
-agrees_below_zero : (x : ℕ) (n : ℤ) → Agrees made_up [] (negsuc x ∷ []) n
+pub agrees_below_zero : (x : ℕ) (n : ℤ) → Agrees made_up [] (negsuc x ∷ []) n
 unfolding katz product unit find coefficient
 agrees_below_zero x n = ap (λ z. power_sign (unsigned_abs n) *ℤ z) (none (int_eq (degree_of heights (negsuc x ∷ [])) (pos 0))) ∙ *ℤ-zero (power_sign (unsigned_abs n))
 
-agrees_at_zero : (n : ℤ) → n ≤ℤ pos 3 → Agrees made_up [] (pos 0 ∷ []) n
+pub agrees_at_zero : (n : ℤ) → n ≤ℤ pos 3 → Agrees made_up [] (pos 0 ∷ []) n
 unfolding katz product unit find coefficient at above
 agrees_at_zero (negsuc n) h = *ℤ-zero (power_sign (suc n))
 agrees_at_zero (pos zero) h = refl
@@ -52,7 +52,7 @@ agrees_at_zero (pos (suc (suc zero))) h = refl
 agrees_at_zero (pos (suc (suc (suc zero)))) h = refl
 agrees_at_zero (pos (suc (suc (suc (suc n))))) h = absurd (omega (arith, ints))
 
-agrees_below_two : (n : ℤ) → n <ℤ pos 2 → Agrees made_up [] (pos 1 ∷ []) n
+pub agrees_below_two : (n : ℤ) → n <ℤ pos 2 → Agrees made_up [] (pos 1 ∷ []) n
 unfolding katz product unit find coefficient at above
 agrees_below_two (negsuc n) h = *ℤ-zero (power_sign (suc n))
 agrees_below_two (pos zero) h = refl
@@ -85,7 +85,7 @@ first [] n c d = let few : 0 ≡ 1 = c.entries in absurd (omega (arith, few))
 first (x ∷ []) n c d = first_at x n c d
 first (x ∷ y ∷ u) n c d = let many : suc (suc (length u)) ≡ 1 = c.entries in absurd (omega (arith, many))
 
-made_up_mismatch : IsMismatch 1 (pos 3) made_up [] curve (pos 2)
+pub made_up_mismatch : IsMismatch 1 (pos 3) made_up [] curve (pos 2)
 made_up_mismatch = record { compared = record { entries = refl; degree = omega (arith, ints); exponent = omega (arith, ints) }; differs = differs; first = first }
 
 -- both values there

@@ -64,7 +64,7 @@ candidates D f = sorted f.heights (filter (is_within D f.heights) (all_sums D f)
 
 abbrev pub depth_from : List ℤ → ℤ → ℕ
 depth_from [] low = 0
-depth_from (x ∷ xs) low = if int_eq x (pos 0) then depth_from xs (low -ℤ negsuc 0) else natural (pos 0 -ℤ low)
+depth_from (x ∷ xs) low = if int_eq x (pos 0) then depth_from xs (low -ℤ negsuc 0) else as_natural (pos 0 -ℤ low)
 
 abbrev pub series_depth : Option (Row ℤ) → ℕ
 series_depth None = 0
@@ -78,7 +78,7 @@ abbrev pub depth : Family ℤ → List ℤ → List Integer → ℕ
 depth f v is = max (genus_depth is) (series_depth (find v f.rows))
 
 abbrev pub first_genus : Family ℤ → List ℤ → List Integer → ℕ
-first_genus f v is = 1 + natural (degree_of f.heights v) * depth f v is
+first_genus f v is = 1 + as_natural (degree_of f.heights v) * depth f v is
 
 abbrev pub new_integer : Family ℤ → List ℤ → ℕ → List Integer → ℤ
 new_integer f v g is = coefficient_of wholes f v (pos 1 -ℤ pos g) -ℤ katz f.heights is v (pos 1 -ℤ pos g)

@@ -60,7 +60,7 @@ greatest_genus [] = 0
 greatest_genus (i ∷ is) = max i.genus (greatest_genus is)
 
 abbrev pub factor_bound : List ℤ → List Integer → List ℤ → ℤ → ℕ
-factor_bound hs is v n = unsigned_abs n + greatest_genus is * natural (degree_of hs v)
+factor_bound hs is v n = unsigned_abs n + greatest_genus is * as_natural (degree_of hs v)
 
 unfoldable pub katz : List ℤ → List Integer → List ℤ → ℤ → ℤ
 katz hs is v n = power_sign (unsigned_abs n) *ℤ product (factors hs (factor_bound hs is v n) is) (place hs v n)

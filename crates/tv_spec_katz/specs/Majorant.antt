@@ -25,7 +25,7 @@ abbrev pub rounded_up : ℕ → ℕ → ℕ
 rounded_up a d = (a + (d - 1)) / d
 
 abbrev pub slope_of : List ℤ → Integer → ℕ
-slope_of hs i = rounded_up (i.genus - 1) (natural (degree_of hs i.class))
+slope_of hs i = rounded_up (i.genus - 1) (as_natural (degree_of hs i.class))
 
 abbrev pub greatest_slope : List ℤ → List Integer → ℕ
 greatest_slope hs [] = 0
@@ -50,7 +50,7 @@ abbrev pub has_majorant : ℕ → ℤ → Family ℤ → List Integer → List �
 has_majorant D N f is v n = is_counted_class D f.heights v && int_le n (majorant_end D N f is)
 
 abbrev pub bound_at : ℤ → Family ℤ → List Integer → List ℤ → ℤ → ℕ
-bound_at N f is v n = counted f N v n + (2 * natural (degree_of f.heights v)) * unsigned_abs (absolute_product f.heights is v n)
+bound_at N f is v n = counted f N v n + (2 * as_natural (degree_of f.heights v)) * unsigned_abs (absolute_product f.heights is v n)
 
 unfoldable pub majorant : ℕ → ℤ → Family ℤ → List Integer → List ℤ → ℤ → ℕ
 majorant D N f is v n = cond (has_majorant D N f is v n) (bound_at N f is v n) 0

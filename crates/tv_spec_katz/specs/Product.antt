@@ -21,4 +21,4 @@ times most f rest p = sum_below (λ k. power_at f.power k *ℤ rest (difference_
 -- a place of positive degree is taken off at most as often as the degree says
 unfoldable pub product : List Factor → Place → ℤ
 product [] p = unit p
-product (f ∷ fs) p = times (natural p.degree) f (product fs) p
+product (f ∷ fs) p = times (as_natural p.degree) f (product fs) p
