@@ -16,7 +16,7 @@
 -- katz hs is v n     == the coefficient of q^n Q^v: (-1)^n times that of y^n Q^v
 use Rattle.std.specs.Prelude.{ℕ, zero, suc, ◌+◌, ◌-◌, ◌*◌, ℤ, pos, ◌-ℤ◌, ◌*ℤ◌, max, unsigned_abs, List, [], ◌∷◌}
 use Rattle.std.specs.List.{flat_map}
-use Rattle.tv_lemmas.specs.Naturals.{as_natural as natural}
+use Rattle.tv_lemmas.specs.Naturals.{as_natural}
 use Rattle.tv_spec_plane.specs.Web.{degree_of}
 use Rattle.tv_spec_katz.specs.Binomials.{choose, power_sign}
 use Rattle.tv_spec_katz.specs.Places.{place}

@@ -14,7 +14,7 @@
 use Rattle.std.specs.Prelude.{ℕ, ◌+◌, ◌-◌, ◌*◌, ◌/◌, ℤ, pos, neg_ℤ, ◌+ℤ◌, max, unsigned_abs, int_le, List, [], ◌∷◌, map, length, Bool, nat_eq, cond, if◌then◌else◌, ◌&&◌}
 use Rattle.std.specs.Ordering.{int_eq}
 use Rattle.tv_ring.specs.Whole.{wholes}
-use Rattle.tv_lemmas.specs.Naturals.{as_natural as natural}
+use Rattle.tv_lemmas.specs.Naturals.{as_natural}
 use Rattle.tv_spec_plane.specs.Web.{degree_of}
 use Rattle.tv_spec_series.specs.Families.{Family, coefficient_of}
 use Rattle.tv_spec_katz.specs.Places.{place}

@@ -7,7 +7,7 @@
 --                     factor, such that the classes k times class add up to that of p and the exponents likewise, of the
 --                     products of (-1)^k binomial(power, k)
 use Rattle.std.specs.Prelude.{ℕ, suc, ℤ, ◌*ℤ◌, List, [], ◌∷◌}
-use Rattle.tv_lemmas.specs.Naturals.{as_natural as natural}
+use Rattle.tv_lemmas.specs.Naturals.{as_natural}
 use Rattle.tv_spec_katz.specs.Binomials.{power_at, sum_below}
 use Rattle.tv_spec_katz.specs.Places.{Place, difference_by, unit}
 

@@ -10,14 +10,8 @@ use Rattle.tv_top.specs.Commands.{IsSide, IsDegree, IsOrder, IsSeries, IsGenerat
 use Rattle.tv_top.specs.declared.command.TheConstants.{MIN_SIDE, MAX_SIDE, MAX_DEGREE, MIN_ORDER, MAX_ORDER}
 use Rattle.tv_top.specs.declared.command.Command.{Command}
 use Rattle.tv_top.specs.declared.command.Command.TheVariants.{Check, Series, Generate, Summary}
-use Rattle.tv_top.proofs.WordPlaces.{same_name, name_of, asks_words}
+use Rattle.tv_top.proofs.WordPlaces.{head, tail, same_name, name_of, asks_words}
 use Rattle.tv_top.proofs.Between.{between_is_number}
-
-first_word : {a b : Word} {us vs : List Word} → a ∷ us ≡ b ∷ vs → a ≡ b
-first_word e = cc
-
-later_words : {a b : Word} {us vs : List Word} → a ∷ us ≡ b ∷ vs → us ≡ vs
-later_words e = cc
 
 full_or_reduced : kind_word Full ≡ kind_word Reduced → ⊥
 full_or_reduced e = let lengths : length (kind_word Full) ≡ length (kind_word Reduced) = ap length e in absurd (omega arith)
@@ -43,26 +37,26 @@ same_side k l p q s =
 
 same_series : (ws : List Word) (k l : Kind) (d e : ℕ) (y z : ℤ) → IsSeries ws k d y → IsSeries ws l e z → Series k d y ≡ Series l e z
 same_series ws k l d e y z p q =
-    let words = later_words (sym p.same ∙ q.same) in
-    let kinds = same_kind k l (first_word words) in
-    let degrees = same_degree d e p.through q.through (first_word (later_words words)) in
-    let orders = same_order y z p.order q.order (first_word (later_words (later_words words))) in
+    let words = tail (sym p.same ∙ q.same) in
+    let kinds = same_kind k l (head words) in
+    let degrees = same_degree d e p.through q.through (head (tail words)) in
+    let orders = same_order y z p.order q.order (head (tail (tail words))) in
     cc
 
 same_generate : (ws : List Word) (k l : ℕ) → IsGenerate ws k → IsGenerate ws l → Generate k ≡ Generate l
-same_generate ws k l p q = ap Generate (same_side k l p.within q.within (first_word (later_words (sym p.same ∙ q.same))))
+same_generate ws k l p q = ap Generate (same_side k l p.within q.within (head (tail (sym p.same ∙ q.same))))
 
 same_summary : (ws : List Word) (k l d e : ℕ) (y z : ℤ) → IsSummaryOf ws k d y → IsSummaryOf ws l e z → Summary k d y ≡ Summary l e z
 same_summary ws k l d e y z p q =
-    let words = later_words (sym p.same ∙ q.same) in
-    let sides = same_side k l p.within q.within (first_word words) in
-    let degrees = same_degree d e p.through q.through (first_word (later_words words)) in
-    let orders = same_order y z p.order q.order (first_word (later_words (later_words words))) in
+    let words = tail (sym p.same ∙ q.same) in
+    let sides = same_side k l p.within q.within (head words) in
+    let degrees = same_degree d e p.through q.through (head (tail words)) in
+    let orders = same_order y z p.order q.order (head (tail (tail words))) in
     cc
 
 -- two commands of other names are asked for by other words
 names_of_words : (ws : List Word) (c d : Command) → Asks ws c → Asks ws d → name_of c ≡ name_of d
-names_of_words ws c d p q = same_name (name_of c) (name_of d) (first_word (sym (asks_words ws c p) ∙ asks_words ws d q))
+names_of_words ws c d p q = same_name (name_of c) (name_of d) (head (sym (asks_words ws c p) ∙ asks_words ws d q))
 
 -- words ask for one command
 pub same_command : (ws : List Word) (c d : Command) → Asks ws c → Asks ws d → c ≡ d

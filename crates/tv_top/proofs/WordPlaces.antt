@@ -45,10 +45,10 @@ one_side = (omega (arith, ints), omega (arith, ints))
 
 -- heads and tails of lists of words
 
-head : {a b : Word} {us vs : List Word} → a ∷ us ≡ b ∷ vs → a ≡ b
+pub head : {a b : Word} {us vs : List Word} → a ∷ us ≡ b ∷ vs → a ≡ b
 head e = cc
 
-tail : {a b : Word} {us vs : List Word} → a ∷ us ≡ b ∷ vs → us ≡ vs
+pub tail : {a b : Word} {us vs : List Word} → a ∷ us ≡ b ∷ vs → us ≡ vs
 tail e = cc
 
 pub some_word : {A B : Type 0} (f : A → B) (xs : List A) → false ≡ (length xs == 0) → map f xs ≢ []
