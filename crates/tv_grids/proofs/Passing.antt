@@ -4,14 +4,13 @@
 -- place_of k p    == the number of the point p of grid k
 -- passes k        == the tests of the triangles, the boundary and the degrees of grid k
 -- is_short k      == the text of grid k has as many bytes as a file may have, or fewer
-use Rattle.std.specs.Prelude.{◌≡◌, ℕ, zero, suc, ◌+◌, ◌-◌, ◌*◌, ◌<◌, ◌≤◌, pos, List, [], ◌∷◌, ◌++◌, length, map, Bool, true, ◌&&◌, nat_eq, nat_lt, unsigned_abs}
+use Rattle.std.specs.Prelude.{◌≡◌, ℕ, zero, suc, ◌-◌, ◌<◌, ◌≤◌, pos, List, [], ◌∷◌, ◌++◌, length, map, Bool, true, ◌&&◌, nat_eq, nat_lt, unsigned_abs}
 use Rattle.std.specs.Fmt.{digits}
 use Rattle.std.specs.List.{list_all, AllByRecursion}
 use Rattle.std.specs.Ordering.{int_eq}
 use Rattle.std.proofs.Common.{refl, sym, ap, ◌∙◌, arith}
 use Rattle.std.proofs.lemmas.Int.{ints}
 use Rattle.std.proofs.lemmas.Bool.Decides.{Decides-int_eq}
-use Rattle.tv_spec_plane.specs.declared.records.CompactEdge.{CompactEdge}
 use Rattle.tv_spec_plane.specs.declared.records.Triple.{Triple}
 use Rattle.tv_spec_plane.specs.Plane.{Point, Segment, at, turn}
 use Rattle.tv_spec_plane.specs.Tiling.{Tiles}
@@ -23,10 +22,9 @@ use Rattle.tv_hull.proofs.Rounds.{hull-runs}
 use Rattle.tv_laws_tiling.specs.Edges.{edges, AreTurned}
 use Rattle.tv_laws_tiling.specs.Points.{AreDistinct, SpansPlane}
 use Rattle.tv_laws_tiled_edges.proofs.Turned.{turned-tiled}
-use Rattle.tv_triangulation.specs.Mesh.{IsTriangulated}
 use Rattle.tv_triangulation.specs.Turned.{turned, turned_of}
 use Rattle.tv_triangulation.proofs.Tilings.{triangulated-tiles}
-use Rattle.tv_grids.specs.Laws.{HasUnitDegrees, IsGridNumber, GridsAreAccepted}
+use Rattle.tv_grids.specs.Laws.{HasUnitDegrees, GridsAreAccepted}
 use Rattle.tv_grids.proofs.Within.{grid-within, length-over}
 use Rattle.tv_grids.proofs.Tested.{both, less, same, all-below, all-listed, is_turned, turned-tested, are_once, are_matched, matched-tested, is_run, run-tested}
 

@@ -2,8 +2,8 @@
 --
 -- Above n bs == each byte is greater than n
 -- IsPlain l  == there is a word, and the bytes of all words are greater than that of a space
-use Rattle.std.proofs.Common.{◌≡◌, ℕ, zero, suc, ◌+◌, ◌-◌, ◌<◌, ◌≤◌, ◌==◌, ℤ, pos, negsuc, List, [], ◌∷◌, ◌++◌, length, map, Bool, true, false, refl, sym, ap, ◌∙◌, append_assoc, arith}
-use Rattle.std.specs.Prelude.{codes, nat_lt, ◌&&◌, slice_index}
+use Rattle.std.proofs.Common.{◌≡◌, ℕ, suc, ◌-◌, ◌<◌, ◌≤◌, ◌==◌, ℤ, pos, negsuc, List, [], ◌∷◌, ◌++◌, length, map, true, false, refl, ap, ◌∙◌, append_assoc, arith}
+use Rattle.std.specs.Prelude.{codes, nat_lt, slice_index}
 use Rattle.std.specs.List.{All, AllByRecursion, list_all, slice_split, join_with_byte}
 use Rattle.std.specs.Fmt.{decimal}
 use Rattle.std.specs.Int.{IsInRange}
@@ -16,7 +16,7 @@ use Rattle.std.proofs.lemmas.Str.Parse.{digit_at}
 use Rattle.tv_lemmas.proofs.Members.{all-append, all-map, all-onto, all-at}
 use Rattle.tv_spec_plane.specs.Web.{Web}
 use Rattle.tv_spec_text.specs.Lines.{Line, words, word_lines, line_text, text_of, spelled, IsNumber}
-use Rattle.tv_spec_text.specs.Files.{first_line, point_line, triangle_line, heights_line, end_line, file_lines, PointFits, TriangleFits, Fits, Spells}
+use Rattle.tv_spec_text.specs.Files.{point_line, triangle_line, heights_line, end_line, file_lines, PointFits, TriangleFits, Fits, Spells}
 use Rattle.tv_text.proofs.Decimals.{decimal-digits}
 use Rattle.tv_grids.proofs.Tested.{both}
 

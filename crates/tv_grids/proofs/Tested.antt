@@ -9,7 +9,7 @@
 -- is_turned ps t     == the triangle names listed points and has the turn 1
 -- are_once ss        == no segment stands twice
 -- are_matched hull es == the back of each edge is an edge, or it is in the hull; and each segment of the hull is an edge
-use Rattle.std.specs.Prelude.{◌≡◌, ◌≢◌, ℕ, ◌+◌, ◌*◌, ◌<◌, ℤ, pos, negsuc, ◌-ℤ◌, ◌+ℤ◌, ◌*ℤ◌, neg_ℤ, ◌<ℤ◌, ◌≤ℤ◌, ◌⊎◌, List, [], ◌∷◌, length, Bool, true, false, not, ◌&&◌, ◌||◌, nat_eq, nat_lt, int_lt, slice_index_or}
+use Rattle.std.specs.Prelude.{◌≡◌, ℕ, ◌<◌, ℤ, pos, ◌-ℤ◌, ◌+ℤ◌, ◌*ℤ◌, neg_ℤ, ◌<ℤ◌, ◌≤ℤ◌, ◌⊎◌, List, [], ◌∷◌, length, Bool, true, false, not, ◌&&◌, ◌||◌, nat_eq, nat_lt}
 use Rattle.std.specs.List.{list_all, list_any, AllByRecursion}
 use Rattle.std.specs.Ordering.{int_eq}
 use Rattle.std.proofs.Common.{refl, sym, ap, subst, ◌∙◌, arith, inl, inr}
@@ -26,7 +26,7 @@ use Rattle.tv_hull.specs.declared.order.Heading.TheVariants.{Up, Down}
 use Rattle.tv_hull.specs.Ways.{IsAhead, IsEnd, IsWay, IsRun}
 use Rattle.tv_laws_tiling.specs.Members.{Among, Once}
 use Rattle.tv_laws_tiling.specs.Hull.{IsLess}
-use Rattle.tv_laws_tiling.specs.Edges.{edges, back, IsTurned, AreTurned, IsMatched}
+use Rattle.tv_laws_tiling.specs.Edges.{edges, back, IsTurned, IsMatched}
 use Rattle.tv_triangulation.specs.Segments.{same_segment}
 use Rattle.tv_triangulation.proofs.SegmentTests.{list_any-among, among-list_any}
 

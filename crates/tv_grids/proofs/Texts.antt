@@ -1,11 +1,11 @@
 -- The texts of grids are files, and a printed file reads back as itself.
-use Rattle.std.proofs.Common.{◌≡◌, ℕ, zero, suc, ◌+◌, ◌*◌, ◌<◌, ◌≤◌, ◌^◌, ℤ, pos, negsuc, [], ◌∷◌, arith}
+use Rattle.std.proofs.Common.{ℕ, zero, suc, ◌<◌, ◌≤◌, ◌^◌, ℤ, pos, negsuc, [], ◌∷◌, arith}
 use Rattle.std.specs.Prelude.{unsigned_abs}
 use Rattle.std.specs.List.{AllByRecursion}
 use Rattle.std.proofs.lemmas.Int.{ints}
 use Rattle.std.proofs.lemmas.Nat.{mul-le}
 use Rattle.tv_lemmas.proofs.Members.{all-flat_map}
-use Rattle.tv_spec_reports.specs.Grids.{place, over_square, grid_point, lower, upper, squares, grid_height, grid}
+use Rattle.tv_spec_reports.specs.Grids.{place, over_square, grid_point, lower, upper, grid_height, grid}
 use Rattle.tv_spec_text.specs.Lines.{IsNumber, IsCount, text_of, word_lines}
 use Rattle.tv_spec_text.specs.Files.{PointFits, TriangleFits, Fits, file_lines}
 use Rattle.tv_spec_text.proofs.Readings.{Spells-unique}
@@ -36,4 +36,4 @@ grids_have_texts (suc j) h = (text-short j (omega arith), file-spells (grid (suc
 
 pub files_read_back : FilesReadBack
 files_read_back w fits =
-    let spells = file-spells w fits in (spells, λ v other. Spells-unique (word_lines (text_of (file_lines w))) v w other spells)
+    let spells = file-spells w fits in record { spells = spells; only = λ v other. Spells-unique (word_lines (text_of (file_lines w))) v w other spells }

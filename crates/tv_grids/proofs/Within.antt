@@ -1,6 +1,5 @@
 -- Grids are within the limits of files.
-use Rattle.std.proofs.Common.{◌≡◌, ℕ, zero, suc, ◌+◌, ◌*◌, ◌<◌, ◌≤◌, List, [], ◌∷◌, length, map, pos, refl, sym, ap, ◌∙◌, subst, arith}
-use Rattle.std.specs.Prelude.{unsigned_abs}
+use Rattle.std.proofs.Common.{◌≡◌, ℕ, zero, suc, ◌+◌, ◌*◌, ◌<◌, ◌≤◌, List, [], ◌∷◌, length, map, refl, sym, ap, ◌∙◌, subst, arith}
 use Rattle.std.specs.List.{flat_map, range_with_len, AllByRecursion}
 use Rattle.std.proofs.lemmas.Int.{ints}
 use Rattle.std.proofs.lemmas.Nat.{mul-le}
@@ -8,9 +7,8 @@ use Rattle.std.proofs.lemmas.List.FromFn.{length-range_with_len}
 use Rattle.tv_lattice.specs.Limits.{IsHeight, HasCoordinates, IsWithinLimits}
 use Rattle.tv_lemmas.proofs.Lists.{length-pairs, length-flat_map-le, flat_map-flat_map}
 use Rattle.tv_lemmas.proofs.Members.{all-map, all-flat_map}
-use Rattle.tv_spec_plane.specs.declared.records.Triple.{Triple}
 use Rattle.tv_spec_plane.specs.Web.{below}
-use Rattle.tv_spec_reports.specs.Grids.{over_square, grid_point, grid_points, lower, upper, squares, grid_height, grid}
+use Rattle.tv_spec_reports.specs.Grids.{over_square, grid_point, lower, upper, grid_height, grid}
 use Rattle.tv_grids.proofs.Rows.{row}
 
 pub all-range : (k m n : ℕ) → k + m ≤ n → AllByRecursion (λ x. x < n) (range_with_len k m)

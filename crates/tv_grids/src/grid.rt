@@ -2,7 +2,8 @@
 //! not looked at here.
 
 ghost use Rattle.std.specs.Prelude.{◌≡◌, ◌≤◌, ◌<◌, suc, unsigned_abs, IfOk};
-ghost use Rattle.tv_spec_reports.specs.Grids.{place, grid_point, grid_points, lower, upper, squares, grid_height, grid, over_square};
+ghost use Rattle.tv_spec_reports.specs.Grids.{place, grid_point, grid_points, lower, upper, squares, grid_height, grid};
+ghost use Rattle.tv_spec_reports.specs.Grids.{over_square};
 
 use std::alloc::{AllocError, Global};
 use tv_lattice::Triple;

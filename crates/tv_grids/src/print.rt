@@ -32,7 +32,8 @@ fn put_first(text: &mut String) -> Result<(), AllocError>
 }
 
 fn put_points(text: &mut String, points: &[Point]) -> Result<(), AllocError>
-    ensures { OnOk result (string_bytes text.new ≡ string_bytes text.old ++ flat_map (λ p. line_text (point_line p)) points.now) }
+    ensures { OnOk result (string_bytes text.new
+        ≡ string_bytes text.old ++ flat_map (λ p. line_text (point_line p)) points.now) }
 {
     for point in points {
         put_point(text, point)?;
@@ -50,7 +51,8 @@ fn put_point(text: &mut String, point: &Point) -> Result<(), AllocError>
 }
 
 fn put_triangles(text: &mut String, triangles: &[Triple]) -> Result<(), AllocError>
-    ensures { OnOk result (string_bytes text.new ≡ string_bytes text.old ++ flat_map (λ t. line_text (triangle_line t)) triangles.now) }
+    ensures { OnOk result (string_bytes text.new
+        ≡ string_bytes text.old ++ flat_map (λ t. line_text (triangle_line t)) triangles.now) }
 {
     for triangle in triangles {
         put_triangle(text, triangle)?;

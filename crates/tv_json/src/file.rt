@@ -47,7 +47,9 @@ fn read_value(alloc: Global, bytes: &[u8]) -> Result<RawFile, InputError>
 
 // The file that the value spells, if it spells one.
 fn file_of(alloc: Global, value: &Value) -> Result<Option<RawFile>, AllocError>
-    ensures { IfOk result (λ file. MatchOption file ((w : Web) → SpellsValue (view value.now) w → ⊥) (SpellsValue (view value.now))) }
+    ensures { IfOk result (λ file. MatchOption file
+        ((w : Web) → SpellsValue (view value.now) w → ⊥)
+        (SpellsValue (view value.now))) }
 {
     let Some(parts) = parts_of(value) else {
         return Ok(None);

@@ -1,13 +1,12 @@
 //! Arrays of numbers, of points and of triangles. How many there may be is not looked at here.
 
-ghost use Rattle.std.specs.Prelude.{◌≡◌, ◌≢◌, ℤ, List, IfOk, MatchOption};
+ghost use Rattle.std.specs.Prelude.{IfOk, MatchOption};
 ghost use Rattle.std.specs.List.{AllByRecursion};
 ghost use Rattle.serde_json.specs.View.{view};
-ghost use Rattle.tv_spec_plane.specs.declared.records.RawPoint.{RawPoint as SeenPoint};
-ghost use Rattle.tv_spec_plane.specs.declared.records.Triple.{Triple as SeenTriple};
 ghost use Rattle.tv_spec_text.specs.Lines.{IsNumber};
 ghost use Rattle.tv_spec_text.specs.Files.{PointFits, TriangleFits};
 ghost use Rattle.tv_spec_json.specs.Files.{whole, values, point_value, triangle_value};
+ghost use Rattle.tv_json.specs.Parts.{IsValueOf, IsValueOfNone};
 
 use crate::number::{count, number};
 use serde_json::Value;
@@ -16,7 +15,9 @@ use tv_lattice::{RawPoint, Triple};
 
 /// The numbers of an array of numbers.
 pub(crate) fn numbers(alloc: Global, value: &Value) -> Result<Option<Vec<i64>>, AllocError>
-    ensures { IfOk result (λ row. MatchOption row ((zs : List ℤ) → AllByRecursion IsNumber zs → view value.now ≢ values whole zs) (λ v. AllByRecursion IsNumber v.items × (view value.now ≡ values whole v.items))) }
+    ensures { IfOk result (λ found. MatchOption found
+        (IsValueOfNone (values whole) (AllByRecursion IsNumber) (view value.now))
+        (λ v. IsValueOf (values whole) (AllByRecursion IsNumber) (view value.now) v.items)) }
 {
     let Some(items) = value.as_array() else {
         return Ok(None);
@@ -33,7 +34,9 @@ pub(crate) fn numbers(alloc: Global, value: &Value) -> Result<Option<Vec<i64>>, 
 
 /// The points of an array of points.
 pub(crate) fn points(alloc: Global, value: &Value) -> Result<Option<Vec<RawPoint>>, AllocError>
-    ensures { IfOk result (λ row. MatchOption row ((ps : List SeenPoint) → AllByRecursion PointFits ps → view value.now ≢ values point_value ps) (λ v. AllByRecursion PointFits v.items × (view value.now ≡ values point_value v.items))) }
+    ensures { IfOk result (λ found. MatchOption found
+        (IsValueOfNone (values point_value) (AllByRecursion PointFits) (view value.now))
+        (λ v. IsValueOf (values point_value) (AllByRecursion PointFits) (view value.now) v.items)) }
 {
     let Some(items) = value.as_array() else {
         return Ok(None);
@@ -50,7 +53,9 @@ pub(crate) fn points(alloc: Global, value: &Value) -> Result<Option<Vec<RawPoint
 
 /// The triangles of an array of triangles.
 pub(crate) fn triangles(alloc: Global, value: &Value) -> Result<Option<Vec<Triple>>, AllocError>
-    ensures { IfOk result (λ row. MatchOption row ((ts : List SeenTriple) → AllByRecursion TriangleFits ts → view value.now ≢ values triangle_value ts) (λ v. AllByRecursion TriangleFits v.items × (view value.now ≡ values triangle_value v.items))) }
+    ensures { IfOk result (λ found. MatchOption found
+        (IsValueOfNone (values triangle_value) (AllByRecursion TriangleFits) (view value.now))
+        (λ v. IsValueOf (values triangle_value) (AllByRecursion TriangleFits) (view value.now) v.items)) }
 {
     let Some(items) = value.as_array() else {
         return Ok(None);
@@ -67,7 +72,9 @@ pub(crate) fn triangles(alloc: Global, value: &Value) -> Result<Option<Vec<Tripl
 
 // The point of an array of two numbers.
 fn point(value: &Value) -> Option<RawPoint>
-    ensures { MatchOption result ((p : SeenPoint) → PointFits p → view value.now ≢ point_value p) (λ p. PointFits p × (view value.now ≡ point_value p)) }
+    ensures { MatchOption result
+        (IsValueOfNone point_value PointFits (view value.now))
+        (IsValueOf point_value PointFits (view value.now)) }
 {
     match value.as_array()?.as_slice() {
         [x, y] => {
@@ -81,7 +88,9 @@ fn point(value: &Value) -> Option<RawPoint>
 
 // The triangle of an array of three counts.
 fn triangle(value: &Value) -> Option<Triple>
-    ensures { MatchOption result ((t : SeenTriple) → TriangleFits t → view value.now ≢ triangle_value t) (λ t. TriangleFits t × (view value.now ≡ triangle_value t)) }
+    ensures { MatchOption result
+        (IsValueOfNone triangle_value TriangleFits (view value.now))
+        (IsValueOf triangle_value TriangleFits (view value.now)) }
 {
     match value.as_array()?.as_slice() {
         [a, b, c] => {

@@ -18,9 +18,12 @@ pub(crate) struct Parts<'a> {
     pub triangles: &'a Value,
 }
 
-// The arrays of an object that has exactly the keys of a file, with `tv` 1. An object has its keys in the order of their codes.
+// The arrays of an object that has exactly the keys of a file, with `tv` 1. An object has its keys in the order of their
+// codes.
 pub(crate) fn parts_of<'a>(value: &'a Value) -> Option<Parts<'a>>
-    ensures { MatchOption result ((h p t : Data) → view value.now ≢ file_object h p t) (λ r. view value.now ≡ file_object (view r.heights.now) (view r.points.now) (view r.triangles.now)) }
+    ensures { MatchOption result
+        ((h p t : Data) → view value.now ≢ file_object h p t)
+        (λ r. view value.now ≡ file_object (view r.heights.now) (view r.points.now) (view r.triangles.now)) }
 {
     let mut members = value.as_object()?.iter();
     let heights = next_member(&mut members, "heights")?;
@@ -42,7 +45,9 @@ pub(crate) fn parts_of<'a>(value: &'a Value) -> Option<Parts<'a>>
 
 // The value of the next member, where that has this key.
 fn next_member<'a>(members: &mut Iter<'a, String, Value>, key: &str) -> Option<&'a Value>
-    ensures { MatchOption result ((d : Data) (ms : Members) → members_view members.old ≢ member key.now d ms) (λ v. members_view members.old ≡ member key.now (view v.now) (members_view members.new)) }
+    ensures { MatchOption result
+        ((d : Data) (ms : Members) → members_view members.old ≢ member key.now d ms)
+        (λ v. members_view members.old ≡ member key.now (view v.now) (members_view members.new)) }
 {
     let (name, value) = members.next()?;
     if is_key(name, key) { Some(value) } else { None }

@@ -55,6 +55,9 @@ fn refuses_other_forms(rt: HostRuntime) -> Result<(), Fail> {
         "{\"tv\":1,\"points\":[],\"triangles\":[],\"heights\":[-0]}",
         "{\"tv\":1,\"points\":[],\"triangles\":[],\"heights\":[1000000000]}",
         "{\"tv\":1,\"points\":[],\"triangles\":[],\"heights\":[-1000000000]}",
+        // a number beyond 64 bits, and one without a reading, even where a later equal key would replace it
+        "{\"tv\":1,\"points\":[],\"triangles\":[],\"heights\":[18446744073709551616]}",
+        "{\"tv\":1e999,\"tv\":1,\"points\":[],\"triangles\":[],\"heights\":[]}",
         // a point of three numbers, a triangle of two, a count below 0
         "{\"tv\":1,\"points\":[[0,0,0]],\"triangles\":[],\"heights\":[]}",
         "{\"tv\":1,\"points\":[],\"triangles\":[[0,1]],\"heights\":[]}",

@@ -1,4 +1,4 @@
-use Rattle.std.proofs.Common.{◌≡◌, ℕ, ℤ, suc, ◌∙◌, ap, ◌++◌, ◌∷◌, [], arith, w64}
+use Rattle.std.proofs.Common.{◌≡◌, ℕ, suc, ◌∙◌, ap, ◌++◌, ◌∷◌, [], arith}
 use Rattle.tv_spec_reports.specs.Grids.{grid_point}
 use Rattle.tv_grids.proofs.Rows.{before, before-next, before-row, before-all}
 use Rattle.tv_grids.proofs.grid.points.Goals as goal
