@@ -1,0 +1,5 @@
+mod Values
+pub mod Ordered
+pub mod Diagrams
+pub mod Sets
+pub mod Chosen

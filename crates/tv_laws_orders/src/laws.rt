@@ -1,0 +1,30 @@
+//! Laws of the orders of the lists: each function does nothing, and its contract is a law.
+
+ghost use Rattle.tv_laws_orders.specs.Laws.{DiagramsInOrder, ExtrasInOrder, AssignmentsInOrder, AssignmentsOfInOrder, ConfigurationsInOrder};
+
+/// The diagrams of one size: at the first row in which two differ, the greater goes first.
+pub fn diagrams_in_order()
+    ensures { DiagramsInOrder }
+{}
+
+/// The sets of as many extras at a corner: of two, the one with the least cell in which they differ goes first.
+pub fn extras_in_order()
+    ensures { ExtrasInOrder }
+{}
+
+/// The assignments of degree at most d: the first edge at which two differ decides, there fewer cells go first, and then
+/// the greater row.
+pub fn assignments_in_order()
+    ensures { AssignmentsInOrder }
+{}
+
+/// So do the assignments of a class.
+pub fn assignments_of_class_in_order()
+    ensures { AssignmentsOfInOrder }
+{}
+
+/// The configurations of a class and an Euler characteristic: the assignment decides, and with the same one the first
+/// corner at which the extras differ, there fewer boxes go first, and then the least cell.
+pub fn configurations_in_order()
+    ensures { ConfigurationsInOrder }
+{}
