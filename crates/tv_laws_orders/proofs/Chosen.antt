@@ -73,17 +73,20 @@ own-choice : (a : Assignment) → same_choice a a ≡ true
 own-choice [] = refl
 own-choice (rows ∷ a) = and_from (same_rows rows rows) (same_choice a a) (own-rows rows) (own-choice a)
 
-by_assignment : (a b : Assignment) → wrong assignment_before a b ≡ false → (c d : Configuration) → c.diagrams ≡ a → d.diagrams ≡ b → wrong configuration_before c d ≡ false
+by_assignment : (a b : Assignment) → wrong assignment_before a b ≡ false → (c d : Configuration) → c.diagrams ≡ a →
+    d.diagrams ≡ b → wrong configuration_before c d ≡ false
 by_assignment a b e c d p q =
     not_from_true (configuration_before c d)
     (or_left (assignment_before c.diagrams d.diagrams) (same_choice c.diagrams d.diagrams && sets_before c.extras d.extras) (rw (p, q) (not-false (assignment_before a b) e)))
 
-by_sets : (a : Assignment) (x y : List (List Cell)) → wrong sets_before x y ≡ false → wrong configuration_before (configuration a x) (configuration a y) ≡ false
+by_sets : (a : Assignment) (x y : List (List Cell)) → wrong sets_before x y ≡ false →
+    wrong configuration_before (configuration a x) (configuration a y) ≡ false
 by_sets a x y e =
     not_from_true (configuration_before (configuration a x) (configuration a y))
     (or_right (assignment_before a a) (same_choice a a && sets_before x y) (and_from (same_choice a a) (sets_before x y) (own-choice a) (not-false (sets_before x y) e)))
 
-with_diagrams : (a : Assignment) (fills : List (List (List Cell))) → AllByRecursion (λ (c : Configuration). c.diagrams ≡ a) (map (configuration a) fills)
+with_diagrams : (a : Assignment) (fills : List (List (List Cell))) →
+    AllByRecursion (λ (c : Configuration). c.diagrams ≡ a) (map (configuration a) fills)
 with_diagrams a [] = tt
 with_diagrams a (x ∷ fills) = (refl, with_diagrams a fills)
 

@@ -31,7 +31,8 @@ in_order {A = A} before (x ∷ xs) o =
     (All-from_recursion (λ y. before x y ≡ true) xs (all-onto (λ y. wrong before x y ≡ false) (λ y. before x y ≡ true) (λ y e. not-false (before x y) e) xs o.0))
     (in_order before xs o.1)
 
-pub of_one_number : {A : Type 0} (f : A → ℕ) (before : A → A → Bool) (n : ℕ) (xs : List A) → AllByRecursion (λ x. f x ≡ n) xs → Ordered before xs → Ordered (by_number f before) xs
+pub of_one_number : {A : Type 0} (f : A → ℕ) (before : A → A → Bool) (n : ℕ) (xs : List A) →
+    AllByRecursion (λ x. f x ≡ n) xs → Ordered before xs → Ordered (by_number f before) xs
 unfolding IsDistinct
 of_one_number f before n [] all o = tt
 of_one_number f before n (x ∷ xs) all o = (
@@ -59,7 +60,8 @@ abbrev FirstIs : {A : Type 0} → (A → Type 0) → List A → Type 0
 FirstIs P [] = ⊥
 FirstIs P (x ∷ xs) = P x
 
-firsts : {A : Type 0} (P : A → Type 0) (x : A) (lists : List (List A)) → P x → AllByRecursion (FirstIs P) (map (λ xs. x ∷ xs) lists)
+firsts : {A : Type 0} (P : A → Type 0) (x : A) (lists : List (List A)) → P x →
+    AllByRecursion (FirstIs P) (map (λ xs. x ∷ xs) lists)
 firsts P x [] p = tt
 firsts P x (xs ∷ lists) p = (p, firsts P x lists p)
 
@@ -73,12 +75,14 @@ module _ {A : Type 0} (same before : A → A → Bool) (own : (x : A) → same x
       (or_right (before x x) (same x x && earlier xs ys) (and_from (same x x) (earlier xs ys) (own x) (not-false (earlier xs ys) e)))
 
   -- the first members decide
-  by_first : (P Q : A → Type 0) → ((x y : A) → P x → Q y → before x y ≡ true) → (xs ys : List A) → FirstIs P xs → FirstIs Q ys → wrong earlier xs ys ≡ false
+  by_first : (P Q : A → Type 0) → ((x y : A) → P x → Q y → before x y ≡ true) → (xs ys : List A) → FirstIs P xs →
+      FirstIs Q ys → wrong earlier xs ys ≡ false
   by_first P Q decide [] ys p q = absurd p
   by_first P Q decide (x ∷ xs) [] p q = absurd q
   by_first P Q decide (x ∷ xs) (y ∷ ys) p q = not_from_true (earlier (x ∷ xs) (y ∷ ys)) (or_left (before x y) (same x y && earlier xs ys) (decide x y p q))
 
-  ordered-behind : (heads : List A) (tails : List (List A)) → Ordered before heads → Ordered earlier tails → Ordered earlier (flat_map (λ x. map (λ xs. x ∷ xs) tails) heads)
+  ordered-behind : (heads : List A) (tails : List (List A)) → Ordered before heads → Ordered earlier tails →
+      Ordered earlier (flat_map (λ x. map (λ xs. x ∷ xs) tails) heads)
   ordered-behind heads tails o rest =
       distinct-flat_map (wrong before) (wrong earlier) (λ x. FirstIs (λ z. z ≡ x)) (λ x. map (λ xs. x ∷ xs) tails)
       (λ x y e. by_first (λ z. z ≡ x) (λ z. z ≡ y) (λ u v p q. rw (p, q) (not-false (before x y) e))) heads o
@@ -92,7 +96,9 @@ module _ {A : Type 0} (same : A → A → Bool) (f : A → ℕ) (before : A → 
   fewer : (m n : ℕ) → wrong nat_lt m n ≡ false → (x y : A) → f x ≡ m → f y ≡ n → by_number f before x y ≡ true
   fewer m n e x y p q = or_left (nat_lt (f x) (f y)) (nat_eq (f x) (f y) && before x y) (rw (p, q) (not-false (nat_lt m n) e))
 
-  pub ordered-ahead : (heads : ℕ → List A) (tails : ℕ → List (List A)) → ((n : ℕ) → AllByRecursion (λ x. f x ≡ n) (heads n)) → ((n : ℕ) → Ordered (by_number f before) (heads n)) → ((n : ℕ) → Ordered chosen (tails n)) → (ns : List ℕ) → Ordered nat_lt ns → Ordered chosen (flat_map (ahead heads tails) ns)
+  pub ordered-ahead : (heads : ℕ → List A) (tails : ℕ → List (List A)) → ((n : ℕ) → AllByRecursion (λ x. f x ≡ n) (heads n)) →
+      ((n : ℕ) → Ordered (by_number f before) (heads n)) → ((n : ℕ) → Ordered chosen (tails n)) → (ns : List ℕ) →
+      Ordered nat_lt ns → Ordered chosen (flat_map (ahead heads tails) ns)
   ordered-ahead heads tails numbers each rest ns o =
       distinct-flat_map (wrong nat_lt) (wrong chosen) (λ n. FirstIs (λ x. f x ≡ n)) (ahead heads tails)
       (λ m n e. by_first same (by_number f before) own (λ x. f x ≡ m) (λ x. f x ≡ n) (fewer m n e)) ns o

@@ -6,7 +6,8 @@
 -- AssignmentsOfInOrder  == so are the assignments of a class
 -- ConfigurationsInOrder == so are the configurations of a class and an Euler characteristic
 -- OrdersAreStrict       == in none of the orders do two come before one another
--- OrderTellsList        == two lists in one such order that have the same members are equal
+-- OrderTellsList before == two lists in that order that have the same members are equal
+-- OrdersTellLists       == so it is in each of the orders
 use Rattle.std.specs.Prelude.{◌≡◌, Contains, ℕ, ℤ, Bool, List, ◌↔◌}
 use Rattle.tv_spec_plane.specs.Web.{Web}
 use Rattle.tv_partition.specs.Rows.{diagrams}
@@ -28,7 +29,8 @@ abbrev pub AssignmentsOfInOrder : Type 0
 AssignmentsOfInOrder = (w : Web) (v : List ℤ) → IsInOrder assignment_before (assignments_of w v)
 
 abbrev pub ConfigurationsInOrder : Type 0
-ConfigurationsInOrder = (w : Web) (fixed : List Rows) (v : List ℤ) (n : ℤ) → IsInOrder configuration_before (configurations w fixed v n)
+ConfigurationsInOrder =
+    (w : Web) (fixed : List Rows) (v : List ℤ) (n : ℤ) → IsInOrder configuration_before (configurations w fixed v n)
 
 pub record OrdersAreStrict : Type 0 where
   pub diagrams : IsStrict diagram_before
@@ -39,3 +41,9 @@ pub record OrdersAreStrict : Type 0 where
 abbrev pub OrderTellsList : {A : Type 0} → (A → A → Bool) → Type 0
 OrderTellsList {A} before =
     (xs ys : List A) → IsInOrder before xs → IsInOrder before ys → ((x : A) → Contains xs x ↔ Contains ys x) → xs ≡ ys
+
+pub record OrdersTellLists : Type 0 where
+  pub diagrams : OrderTellsList diagram_before
+  pub extras : OrderTellsList set_before
+  pub assignments : OrderTellsList assignment_before
+  pub configurations : OrderTellsList configuration_before

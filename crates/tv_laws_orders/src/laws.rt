@@ -1,6 +1,6 @@
 //! Laws of the orders of the lists: each function does nothing, and its contract is a law.
 
-ghost use Rattle.tv_laws_orders.specs.Laws.{DiagramsInOrder, ExtrasInOrder, AssignmentsInOrder, AssignmentsOfInOrder, ConfigurationsInOrder};
+ghost use Rattle.tv_laws_orders.specs.Laws.{DiagramsInOrder, ExtrasInOrder, AssignmentsInOrder, AssignmentsOfInOrder, ConfigurationsInOrder, OrdersAreStrict, OrdersTellLists};
 
 /// The diagrams of one size: at the first row in which two differ, the greater goes first.
 pub fn diagrams_in_order()
@@ -27,4 +27,14 @@ pub fn assignments_of_class_in_order()
 /// corner at which the extras differ, there fewer boxes go first, and then the least cell.
 pub fn configurations_in_order()
     ensures { ConfigurationsInOrder }
+{}
+
+/// In none of these orders do two come before one another, and none comes before itself.
+pub fn orders_are_strict()
+    ensures { OrdersAreStrict }
+{}
+
+/// So members and order tell the list: two lists in order with the same members are equal.
+pub fn orders_tell_lists()
+    ensures { OrdersTellLists }
 {}

@@ -1,0 +1,57 @@
+-- A list in a strict order is told by its members.
+use Rattle.std.specs.Prelude.{◌≡◌, Contains, suc, Bool, true, false, List, [], ◌∷◌}
+use Rattle.std.proofs.Common.{refl, sym, ap, ◌∙◌, arith, inl, inr}
+use Rattle.tv_lemmas.proofs.Members.{contains-head, contains-later, contains-cases}
+use Rattle.tv_laws_orders.specs.Orders.{diagram_before, set_before, assignment_before, configuration_before, IsInOrder, IsStrict}
+use Rattle.tv_laws_orders.specs.Laws.{OrderTellsList, OrdersTellLists}
+use Rattle.tv_laws_orders.proofs.Strict.{not_itself, orders_are_strict}
+
+module _ {A : Type 0} (before : A → A → Bool) (strict : IsStrict before) where
+  not_both : (x y : A) → before x y ≡ true → before y x ≡ true → ⊥
+  not_both x y p q = let f : true ≡ false = sym q ∙ strict x y p in cc
+
+  rest_in_order : (x : A) (xs : List A) → IsInOrder before (x ∷ xs) → IsInOrder before xs
+  rest_in_order x xs o i j d h k = o (suc i) (suc j) d (omega arith) (omega arith)
+
+  -- the first comes before each of the rest
+  first_before : (x y : A) (xs : List A) → IsInOrder before (x ∷ xs) → Contains xs y → before x y ≡ true
+  first_before x y xs o (k, h, e) = ap (before x) (sym e) ∙ o 0 (suc k) y (omega arith) (omega arith)
+
+  no_member : (x : A) → Contains [] x → ⊥
+  no_member x (k, h, e) = absurd (omega arith)
+
+  firsts-equal : (x y : A) (xs ys : List A) → IsInOrder before (x ∷ xs) → IsInOrder before (y ∷ ys) → Contains (y ∷ ys) x →
+      Contains (x ∷ xs) y → x ≡ y
+  firsts-equal x y xs ys o p m n = elim (contains-cases x y ys m) [
+    | inl here ↦ sym here
+    | inr later ↦ elim (contains-cases y x xs n) [
+      | inl there ↦ there
+      | inr behind ↦ absurd (not_both x y (first_before x y xs o behind) (first_before y x ys p later))
+    ]
+  ]
+
+  -- a member of the rest of one list is one of the rest of the other
+  rest-member : (x y z : A) (xs ys : List A) → x ≡ y → IsInOrder before (x ∷ xs) → Contains xs z → Contains (y ∷ ys) z →
+      Contains ys z
+  rest-member x y z xs ys e o m n = elim (contains-cases z y ys n) [
+    | inl here ↦ absurd (let f : true ≡ false = sym (first_before x z xs o m) ∙ (ap (before x) (sym (e ∙ here)) ∙ not_itself before strict x) in cc)
+    | inr later ↦ later
+  ]
+
+  pub order_tells : OrderTellsList before
+  order_tells [] [] o p m = refl
+  order_tells [] (y ∷ ys) o p m = absurd (no_member y ((m y).1 (contains-head y y ys refl)))
+  order_tells (x ∷ xs) [] o p m = absurd (no_member x ((m x).0 (contains-head x x xs refl)))
+  order_tells (x ∷ xs) (y ∷ ys) o p m =
+      let e = firsts-equal x y xs ys o p ((m x).0 (contains-head x x xs refl)) ((m y).1 (contains-head y y ys refl)) in
+      let rest = order_tells xs ys (rest_in_order x xs o) (rest_in_order y ys p)
+      (λ z. (λ a. rest-member x y z xs ys e o a ((m z).0 (contains-later z x xs a)), λ b. rest-member y x z ys xs (sym e) p b ((m z).1 (contains-later z y ys b)))) in
+      ap (λ z. z ∷ xs) e ∙ ap (λ zs. y ∷ zs) rest
+
+pub orders_tell_lists : OrdersTellLists
+orders_tell_lists = record {
+  diagrams = order_tells diagram_before orders_are_strict.diagrams;
+  extras = order_tells set_before orders_are_strict.extras;
+  assignments = order_tells assignment_before orders_are_strict.assignments;
+  configurations = order_tells configuration_before orders_are_strict.configurations;
+}
