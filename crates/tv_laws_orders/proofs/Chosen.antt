@@ -5,7 +5,7 @@ use Rattle.std.specs.Cmp.Lexicographic.{pointwise}
 use Rattle.std.proofs.Common.{refl}
 use Rattle.std.proofs.lemmas.Bool.{not-false, not_from_true, or_left, or_right, and_from}
 use Rattle.tv_lemmas.specs.Naturals.{as_natural}
-use Rattle.tv_lemmas.proofs.Members.{all-any}
+use Rattle.tv_lemmas.proofs.Members.{all-any, all-map}
 use Rattle.tv_lemmas.proofs.Distinct.{distinct-map, distinct-filter, distinct-flat_map}
 use Rattle.tv_spec_plane.specs.Web.{Web, compact, below, edge_degree, degree_of}
 use Rattle.tv_partition.specs.Rows.{size, diagrams}
@@ -16,17 +16,18 @@ use Rattle.tv_cells.specs.Cells.{same, precedes}
 use Rattle.tv_cells.proofs.Rising.{same_itself}
 use Rattle.tv_spec_boxes.specs.Assignments.{Assignment, all_legs, class_of, choices, assignments, assignments_of, same_rows, same_choice, same_vector}
 use Rattle.tv_spec_boxes.specs.Configurations.{Configuration, configuration, extras_of, fillings, fillings_of, boxes_left, configurations_on, configurations}
+use Rattle.tv_laws_counts.proofs.Choices.{own}
 use Rattle.tv_laws_orders.specs.Orders.{first_differs, assignment_before, sets_before, configuration_before}
 use Rattle.tv_laws_orders.specs.Laws.{AssignmentsInOrder, AssignmentsOfInOrder, ConfigurationsInOrder}
-use Rattle.tv_laws_orders.proofs.Ordered.{wrong, Ordered, in_order, ordered-range, ordered-ahead}
-use Rattle.tv_laws_orders.proofs.Diagrams.{own-rows, diagrams-size, diagrams-ordered}
+use Rattle.tv_laws_orders.proofs.Ordered.{wrong, Ordered, in_order, pointwise-own, ordered-range, ordered-ahead}
+use Rattle.tv_laws_orders.proofs.Diagrams.{diagrams-size, diagrams-ordered}
 use Rattle.tv_laws_orders.proofs.Sets.{extras-length, extras-ordered}
 
 choices-ordered : (gs : List ℕ) (d : ℕ) → Ordered assignment_before (choices gs d)
 unfolding choices IsDistinct
 choices-ordered [] d = (tt, tt)
 choices-ordered (g ∷ gs) d =
-    ordered-ahead same_rows size greater own-rows diagrams (λ n. choices gs (d - (n * g))) diagrams-size diagrams-ordered (λ n. choices-ordered gs (d - (n * g)))
+    ordered-ahead same_rows size greater own diagrams (λ n. choices gs (d - (n * g))) diagrams-size diagrams-ordered (λ n. choices-ordered gs (d - (n * g)))
     (filter (λ n. nat_le (n * g) d) (below (suc d))) (distinct-filter (wrong nat_lt) (λ n. nat_le (n * g) d) (below (suc d)) (ordered-range 0 (suc d)))
 
 assignments-ordered : (w : Web) (d : ℕ) → Ordered assignment_before (assignments w d)
@@ -46,10 +47,6 @@ assignments_of_in_order w v = in_order assignment_before (assignments_of w v) (o
 
 -- ---- the sets at the corners
 
-own-cells : (cells : List Cell) → pointwise same cells cells ≡ true
-own-cells [] = refl
-own-cells (c ∷ cells) = and_from (same c c) (pointwise same cells cells) (same_itself c) (own-cells cells)
-
 no_corner-ordered : (b : Bool) → Ordered sets_before (cond b ([] ∷ []) [])
 unfolding IsDistinct
 no_corner-ordered true = (tt, tt)
@@ -59,7 +56,7 @@ fillings-ordered : (legs : List Legs) (side n : ℕ) → Ordered sets_before (fi
 unfolding fillings
 fillings-ordered [] side n = no_corner-ordered (nat_eq n 0)
 fillings-ordered (l ∷ legs) side n =
-    ordered-ahead (pointwise same) length (first_differs same precedes) own-cells (extras_of l side) (λ i. fillings legs side (n - i)) (extras-length l side) (extras-ordered l side)
+    ordered-ahead (pointwise same) length (first_differs same precedes) (pointwise-own same same_itself) (extras_of l side) (λ i. fillings legs side (n - i)) (extras-length l side) (extras-ordered l side)
     (λ i. fillings-ordered legs side (n - i)) (below (suc n)) (ordered-range 0 (suc n))
 
 fillings_of-ordered : (legs : List Legs) (z : ℤ) → Ordered sets_before (fillings_of legs z)
@@ -68,10 +65,6 @@ fillings_of-ordered legs (pos n) = fillings-ordered legs n n
 fillings_of-ordered legs (negsuc n) = tt
 
 -- ---- configurations
-
-own-choice : (a : Assignment) → same_choice a a ≡ true
-own-choice [] = refl
-own-choice (rows ∷ a) = and_from (same_rows rows rows) (same_choice a a) (own-rows rows) (own-choice a)
 
 by_assignment : (a b : Assignment) → wrong assignment_before a b ≡ false → (c d : Configuration) → c.diagrams ≡ a →
     d.diagrams ≡ b → wrong configuration_before c d ≡ false
@@ -83,12 +76,7 @@ by_sets : (a : Assignment) (x y : List (List Cell)) → wrong sets_before x y �
     wrong configuration_before (configuration a x) (configuration a y) ≡ false
 by_sets a x y e =
     not_from_true (configuration_before (configuration a x) (configuration a y))
-    (or_right (assignment_before a a) (same_choice a a && sets_before x y) (and_from (same_choice a a) (sets_before x y) (own-choice a) (not-false (sets_before x y) e)))
-
-with_diagrams : (a : Assignment) (fills : List (List (List Cell))) →
-    AllByRecursion (λ (c : Configuration). c.diagrams ≡ a) (map (configuration a) fills)
-with_diagrams a [] = tt
-with_diagrams a (x ∷ fills) = (refl, with_diagrams a fills)
+    (or_right (assignment_before a a) (same_choice a a && sets_before x y) (and_from (same_choice a a) (sets_before x y) (pointwise-own same_rows own a) (not-false (sets_before x y) e)))
 
 pub configurations_in_order : ConfigurationsInOrder
 configurations_in_order w fixed v n =
@@ -96,6 +84,6 @@ configurations_in_order w fixed v n =
     in_order configuration_before (configurations w fixed v n)
     (distinct-flat_map (wrong assignment_before) (wrong configuration_before) (λ (a : Assignment) (c : Configuration). c.diagrams ≡ a) (λ a. configurations_on w fixed a n) by_assignment
     (assignments_of w v) (of_class-ordered w v)
-    (all-any (λ a. AllByRecursion (λ (c : Configuration). c.diagrams ≡ a) (configurations_on w fixed a n)) (λ a. with_diagrams a (fills a)) (assignments_of w v))
+    (all-any (λ a. AllByRecursion (λ (c : Configuration). c.diagrams ≡ a) (configurations_on w fixed a n)) (λ a. all-map (λ (x : List (List Cell)). Unit {0}) (λ (c : Configuration). c.diagrams ≡ a) (configuration a) (λ x none. refl) (fills a) (all-any (λ (x : List (List Cell)). Unit {0}) (λ x. tt) (fills a))) (assignments_of w v))
     (all-any (λ a. Ordered configuration_before (configurations_on w fixed a n))
     (λ a. distinct-map (wrong sets_before) (wrong configuration_before) (configuration a) (by_sets a) (fills a) (fillings_of-ordered (all_legs w a fixed) (boxes_left w fixed a n))) (assignments_of w v)))

@@ -5,3 +5,4 @@ pub mod Sets
 pub mod Chosen
 pub mod Strict
 pub mod Told
+pub mod Least

@@ -2,12 +2,15 @@
 --
 -- wrong before x y   == x does not come before y
 -- Ordered before xs  == no member and a later one stand wrong
--- in_order           what is so is in order, and what is in order is so: ordered
+-- in_order           such a list is in order: each member comes before every later one
 -- of_one_number      what all have one number may be ordered by that number first
 -- ordered-range      the numbers from k on
+-- pointwise-own      a list is equal to itself, place by place
+-- behind             one more member in front of both
 -- ordered-ahead      each of some lists behind each of some heads, by a number of the heads
 use Rattle.std.specs.Prelude.{◌≡◌, ℕ, zero, suc, ◌+◌, ◌<◌, Bool, true, false, not, ◌&&◌, nat_eq, nat_lt, List, [], ◌∷◌, map}
 use Rattle.std.specs.List.{flat_map, AllByRecursion, IsDistinct, range_with_len}
+use Rattle.std.specs.Cmp.Lexicographic.{pointwise}
 use Rattle.std.proofs.Common.{refl, sym, ◌∙◌, arith}
 use Rattle.std.proofs.lemmas.Bool.{not-false, not_from_true, or_left, or_right, and_from}
 use Rattle.std.proofs.lemmas.Bool.Decides.{nat_tests}
@@ -54,6 +57,10 @@ pub ordered-range : (k n : ℕ) → Ordered nat_lt (range_with_len k n)
 unfolding IsDistinct
 ordered-range k zero = tt
 ordered-range k (suc n) = (later k (k + 1) n (omega arith), ordered-range (k + 1) n)
+
+pub pointwise-own : {A : Type 0} (same : A → A → Bool) → ((x : A) → same x x ≡ true) → (xs : List A) → pointwise same xs xs ≡ true
+pointwise-own same own [] = refl
+pointwise-own same own (x ∷ xs) = and_from (same x x) (pointwise same xs xs) (own x) (pointwise-own same own xs)
 
 -- what P says is true of the first member
 abbrev FirstIs : {A : Type 0} → (A → Type 0) → List A → Type 0

@@ -1,17 +1,16 @@
--- In none of the orders do two come before one another, and a list in such an order is told by its members.
+-- In none of the orders do two come before one another.
 use Rattle.std.specs.Prelude.{◌≡◌, ℕ, Bool, true, false, ◌&&◌, ◌||◌, nat_eq, nat_lt, [], ◌∷◌, length}
 use Rattle.std.specs.Cmp.Lexicographic.{pointwise}
-use Rattle.std.proofs.Common.{refl, sym, ap, ◌∙◌, arith}
+use Rattle.std.proofs.Common.{refl, ap, ◌∙◌, arith}
+use Rattle.std.proofs.lemmas.Bool.{both_ways, false_from_ne_true, and_right}
 use Rattle.std.proofs.lemmas.Bool.Decides.{nat_tests}
 use Rattle.tv_lemmas.proofs.Distinct.{pointwise-tells}
 use Rattle.tv_partition.specs.Rows.{size}
 use Rattle.tv_partition.specs.Laws.{greater}
 use Rattle.tv_partition.proofs.Members.{same_lists}
-use Rattle.tv_cells.specs.declared.cell.Cell.{Cell}
 use Rattle.tv_cells.specs.Cells.{same, precedes}
-use Rattle.tv_cells.proofs.Rising.{same_is}
-use Rattle.tv_cells.proofs.Downward.{cell_is}
 use Rattle.tv_spec_boxes.specs.Assignments.{Assignment, same_rows, same_choice}
+use Rattle.tv_laws_counts.proofs.Rises.{same_cell}
 use Rattle.tv_laws_orders.specs.Orders.{by_number, first_differs, diagram_before, set_before, assignment_before, sets_before, configuration_before, IsStrict}
 use Rattle.tv_laws_orders.specs.Laws.{OrdersAreStrict}
 
@@ -21,26 +20,18 @@ either_strict : (before equal then after back since : Bool) → (before ≡ true
     (before ≡ true → back ≡ false) → (equal ≡ true → after ≡ false) → (then ≡ true → since ≡ false) →
     (before || (equal && then)) ≡ true → (after || (back && since)) ≡ false
 either_strict true equal then after back since f g h k e = rw (f refl, g refl) refl
-either_strict false true true after back since f g h k e = rw (h refl, k refl) (none back)
-  where
-    none : (b : Bool) → (b && false) ≡ false
-    none true = refl
-    none false = refl
+either_strict false true true after back since f g h k e = rw (h refl, k refl) (and_right back false refl)
 either_strict false true false after back since f g h k e = cc
 either_strict false false then after back since f g h k e = cc
 
-false_unless : (b : Bool) → (b ≡ true → ⊥) → b ≡ false
-false_unless true never = absurd (never refl)
-false_unless false never = refl
-
 module _ {A : Type 0} (before : A → A → Bool) (strict : IsStrict before) where
   pub not_itself : (x : A) → before x x ≡ false
-  not_itself x = false_unless (before x x) (λ e. let f : true ≡ false = sym e ∙ strict x x e in cc)
+  not_itself x = false_from_ne_true (before x x) (λ e. both_ways (before x x) (strict x x e) e)
 
   -- a test of equality says no where one comes before the other
   apart : (same : A → A → Bool) → ((x y : A) → same x y ≡ true → x ≡ y) → (x y : A) → before x y ≡ true → same y x ≡ false
   apart same tells x y e =
-      false_unless (same y x) (λ s. let f : true ≡ false = sym e ∙ (ap (before x) (tells y x s) ∙ not_itself x) in cc)
+      false_from_ne_true (same y x) (λ s. both_ways (before x y) (ap (before x) (tells y x s) ∙ not_itself x) e)
 
   pub first_differs-strict : (same : A → A → Bool) → ((x y : A) → same x y ≡ true → x ≡ y) → IsStrict (first_differs same before)
   first_differs-strict same tells [] ys e = cc
@@ -73,20 +64,17 @@ greater-strict (row ∷ a) (other ∷ b) e =
 precedes-strict : IsStrict precedes
 precedes-strict c d p = grind (arith, nat_tests)
 
-same_cell-tells : (c d : Cell) → same c d ≡ true → c ≡ d
-same_cell-tells c d e = let p = same_is c d e in cell_is c d p.0 p.1 p.2
-
 diagrams-strict : IsStrict diagram_before
 diagrams-strict = by_number-strict greater greater-strict size
 
 sets-strict : IsStrict set_before
-sets-strict = by_number-strict (first_differs same precedes) (first_differs-strict precedes precedes-strict same same_cell-tells) length
+sets-strict = by_number-strict (first_differs same precedes) (first_differs-strict precedes precedes-strict same same_cell) length
 
 assignments-strict : IsStrict assignment_before
 assignments-strict = first_differs-strict diagram_before diagrams-strict same_rows same_lists
 
 at_corners-strict : IsStrict sets_before
-at_corners-strict = first_differs-strict set_before sets-strict (pointwise same) (pointwise-tells same same_cell-tells)
+at_corners-strict = first_differs-strict set_before sets-strict (pointwise same) (pointwise-tells same same_cell)
 
 same_choice-tells : (a b : Assignment) → same_choice a b ≡ true → a ≡ b
 same_choice-tells = pointwise-tells same_rows same_lists

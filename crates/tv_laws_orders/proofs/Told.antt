@@ -1,15 +1,18 @@
 -- A list in a strict order is told by its members.
-use Rattle.std.specs.Prelude.{◌≡◌, Contains, suc, Bool, true, false, List, [], ◌∷◌}
+use Rattle.std.specs.Prelude.{◌≡◌, Contains, suc, Bool, true, List, [], ◌∷◌}
 use Rattle.std.proofs.Common.{refl, sym, ap, ◌∙◌, arith, inl, inr}
+use Rattle.std.proofs.lemmas.Bool.{both_ways}
 use Rattle.tv_lemmas.proofs.Members.{contains-head, contains-later, contains-cases}
 use Rattle.tv_laws_orders.specs.Orders.{diagram_before, set_before, assignment_before, configuration_before, IsInOrder, IsStrict}
-use Rattle.tv_laws_orders.specs.Laws.{OrderTellsList, OrdersTellLists}
+use Rattle.tv_laws_orders.specs.Laws.{OrderTellsList, OrdersTellLists, AssignmentsTold, ConfigurationsTold}
+use Rattle.tv_laws_counts.proofs.Assigned.{assignments_are_all}
+use Rattle.tv_laws_counts.proofs.Configured.{configurations_are_all}
+use Rattle.tv_spec_boxes.specs.Assignments.{assignments}
+use Rattle.tv_spec_boxes.specs.Configurations.{configurations}
+use Rattle.tv_laws_orders.proofs.Chosen.{assignments_in_order, configurations_in_order}
 use Rattle.tv_laws_orders.proofs.Strict.{not_itself, orders_are_strict}
 
 module _ {A : Type 0} (before : A → A → Bool) (strict : IsStrict before) where
-  not_both : (x y : A) → before x y ≡ true → before y x ≡ true → ⊥
-  not_both x y p q = let f : true ≡ false = sym q ∙ strict x y p in cc
-
   rest_in_order : (x : A) (xs : List A) → IsInOrder before (x ∷ xs) → IsInOrder before xs
   rest_in_order x xs o i j d h k = o (suc i) (suc j) d (omega arith) (omega arith)
 
@@ -26,7 +29,7 @@ module _ {A : Type 0} (before : A → A → Bool) (strict : IsStrict before) whe
     | inl here ↦ sym here
     | inr later ↦ elim (contains-cases y x xs n) [
       | inl there ↦ there
-      | inr behind ↦ absurd (not_both x y (first_before x y xs o behind) (first_before y x ys p later))
+      | inr behind ↦ absurd (both_ways (before y x) (strict x y (first_before x y xs o behind)) (first_before y x ys p later))
     ]
   ]
 
@@ -34,7 +37,7 @@ module _ {A : Type 0} (before : A → A → Bool) (strict : IsStrict before) whe
   rest-member : (x y z : A) (xs ys : List A) → x ≡ y → IsInOrder before (x ∷ xs) → Contains xs z → Contains (y ∷ ys) z →
       Contains ys z
   rest-member x y z xs ys e o m n = elim (contains-cases z y ys n) [
-    | inl here ↦ absurd (let f : true ≡ false = sym (first_before x z xs o m) ∙ (ap (before x) (sym (e ∙ here)) ∙ not_itself before strict x) in cc)
+    | inl here ↦ absurd (both_ways (before x z) (ap (before x) (sym (e ∙ here)) ∙ not_itself before strict x) (first_before x z xs o m))
     | inr later ↦ later
   ]
 
@@ -55,3 +58,13 @@ orders_tell_lists = record {
   assignments = order_tells assignment_before orders_are_strict.assignments;
   configurations = order_tells configuration_before orders_are_strict.configurations;
 }
+
+pub assignments_told : AssignmentsTold
+assignments_told w d xs graded o all =
+    orders_tell_lists.assignments xs (assignments w d) o (assignments_in_order w d)
+    (λ a. let of = all a in let listed = assignments_are_all w d a graded in (λ m. listed.1 (of.0 m), λ m. of.1 (listed.0 m)))
+
+pub configurations_told : ConfigurationsTold
+configurations_told w fixed v n xs graded also o all =
+    orders_tell_lists.configurations xs (configurations w fixed v n) o (configurations_in_order w fixed v n)
+    (λ c. let of = all c in let listed = configurations_are_all w fixed v n c graded also in (λ m. listed.1 (of.0 m), λ m. of.1 (listed.0 m)))

@@ -100,10 +100,13 @@ two_edges = refl
 abbrev box : List Cell
 box = corner ∷ []
 
--- fewer boxes at the first corner come first: neither by the last corner, nor by the first corner alone
+abbrev at : List Cell → List Cell → List (List Cell)
+at first second = first ∷ second ∷ []
+
+-- neither by the last corner, nor by the number of boxes at each alone, nor by the first corner alone
 sets_places :
-    map (sets_before ([] ∷ box ∷ [])) (([] ∷ [] ∷ []) ∷ ([] ∷ with_z ∷ []) ∷ (box ∷ [] ∷ []) ∷ [])
-    ≡ false ∷ true ∷ true ∷ []
+    map (sets_before (at with_z box)) (at box with_z ∷ at with_x with_z ∷ at with_z box ∷ at with_z with_z ∷ at with_y [] ∷ [])
+    ≡ false ∷ false ∷ false ∷ true ∷ true ∷ []
 sets_places = refl
 
 -- of one edge and one corner
@@ -119,6 +122,6 @@ configuration_places = refl
 -- one box beside the cell on the conifold's edge: at the second corner, then at the first, at each the earlier cell first
 conifold_boxes :
     map (λ c. c.extras) (configurations conifold (no_legs conifold) (negsuc 0 ∷ pos 1 ∷ negsuc 0 ∷ pos 1 ∷ []) (pos 2))
-    ≡ ([] ∷ (along_x ∷ []) ∷ []) ∷ ([] ∷ (along_y ∷ []) ∷ []) ∷ ((along_x ∷ []) ∷ [] ∷ []) ∷ ((along_z ∷ []) ∷ [] ∷ []) ∷ []
+    ≡ at [] (along_x ∷ []) ∷ at [] (along_y ∷ []) ∷ at (along_x ∷ []) [] ∷ at (along_z ∷ []) [] ∷ []
 unfolding conifold fillings assignments choices compact outer edge_ref edge_ratio turn diagrams diagrams_within cube sublists_of row_cost rows_cost overlap_cost overlaps
 conifold_boxes = refl

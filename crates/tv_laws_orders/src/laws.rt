@@ -1,6 +1,7 @@
 //! Laws of the orders of the lists: each function does nothing, and its contract is a law.
 
-ghost use Rattle.tv_laws_orders.specs.Laws.{DiagramsInOrder, ExtrasInOrder, AssignmentsInOrder, AssignmentsOfInOrder, ConfigurationsInOrder, OrdersAreStrict, OrdersTellLists};
+ghost use Rattle.tv_laws_orders.specs.Laws.{DiagramsInOrder, ExtrasInOrder, AssignmentsInOrder, AssignmentsOfInOrder, ConfigurationsInOrder};
+ghost use Rattle.tv_laws_orders.specs.Laws.{SetsByLeastCell, OrdersAreStrict, OrdersTellLists, AssignmentsTold, ConfigurationsTold};
 
 /// The diagrams of one size: at the first row in which two differ, the greater goes first.
 pub fn diagrams_in_order()
@@ -37,4 +38,21 @@ pub fn orders_are_strict()
 /// So members and order tell the list: two lists in order with the same members are equal.
 pub fn orders_tell_lists()
     ensures { OrdersTellLists }
+{}
+
+/// In a graded web a list in order of exactly the assignments of degree at most d is the list of them.
+pub fn assignments_told()
+    ensures { AssignmentsTold }
+{}
+
+/// In a graded web with diagrams on its open edges so is a list in order of exactly the configurations of a class and an
+/// Euler characteristic.
+pub fn configurations_told()
+    ensures { ConfigurationsTold }
+{}
+
+/// Of two sets of as many extras the one that comes before has a cell that the other lacks, and before it both have the
+/// same cells.
+pub fn sets_by_least_cell()
+    ensures { SetsByLeastCell }
 {}
