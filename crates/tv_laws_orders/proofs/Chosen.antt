@@ -14,7 +14,7 @@ use Rattle.tv_cells.specs.declared.cell.Cell.{Cell}
 use Rattle.tv_cells.specs.declared.legs.Legs.{Legs}
 use Rattle.tv_cells.specs.Cells.{same, precedes}
 use Rattle.tv_cells.proofs.Rising.{same_itself}
-use Rattle.tv_spec_boxes.specs.Assignments.{Assignment, all_legs, class_of, choices, assignments, assignments_of, same_rows, same_choice, same_vector}
+use Rattle.tv_spec_boxes.specs.Assignments.{Rows, Assignment, all_legs, class_of, choices, assignments, assignments_of, same_rows, same_choice, same_vector}
 use Rattle.tv_spec_boxes.specs.Configurations.{Configuration, configuration, extras_of, fillings, fillings_of, boxes_left, configurations_on, configurations}
 use Rattle.tv_laws_counts.proofs.Choices.{own}
 use Rattle.tv_laws_orders.specs.Orders.{first_differs, assignment_before, sets_before, configuration_before}
@@ -27,8 +27,10 @@ choices-ordered : (gs : List ℕ) (d : ℕ) → Ordered assignment_before (choic
 unfolding choices IsDistinct
 choices-ordered [] d = (tt, tt)
 choices-ordered (g ∷ gs) d =
-    ordered-ahead same_rows size greater own diagrams (λ n. choices gs (d - (n * g))) diagrams-size diagrams-ordered (λ n. choices-ordered gs (d - (n * g)))
-    (filter (λ n. nat_le (n * g) d) (below (suc d))) (distinct-filter (wrong nat_lt) (λ n. nat_le (n * g) d) (below (suc d)) (ordered-range 0 (suc d)))
+    let fits : ℕ → Bool = λ n. nat_le (n * g) d in
+    ordered-ahead same_rows size greater own diagrams (λ n. choices gs (d - (n * g))) diagrams-size diagrams-ordered
+    (λ n. choices-ordered gs (d - (n * g))) (filter fits (below (suc d)))
+    (distinct-filter (wrong nat_lt) fits (below (suc d)) (ordered-range 0 (suc d)))
 
 assignments-ordered : (w : Web) (d : ℕ) → Ordered assignment_before (assignments w d)
 unfolding assignments
@@ -56,7 +58,8 @@ fillings-ordered : (legs : List Legs) (side n : ℕ) → Ordered sets_before (fi
 unfolding fillings
 fillings-ordered [] side n = no_corner-ordered (nat_eq n 0)
 fillings-ordered (l ∷ legs) side n =
-    ordered-ahead (pointwise same) length (first_differs same precedes) (pointwise-own same same_itself) (extras_of l side) (λ i. fillings legs side (n - i)) (extras-length l side) (extras-ordered l side)
+    ordered-ahead (pointwise same) length (first_differs same precedes) (pointwise-own same same_itself) (extras_of l side)
+    (λ i. fillings legs side (n - i)) (extras-length l side) (extras-ordered l side)
     (λ i. fillings-ordered legs side (n - i)) (below (suc n)) (ordered-range 0 (suc n))
 
 fillings_of-ordered : (legs : List Legs) (z : ℤ) → Ordered sets_before (fillings_of legs z)
@@ -70,20 +73,38 @@ by_assignment : (a b : Assignment) → wrong assignment_before a b ≡ false →
     d.diagrams ≡ b → wrong configuration_before c d ≡ false
 by_assignment a b e c d p q =
     not_from_true (configuration_before c d)
-    (or_left (assignment_before c.diagrams d.diagrams) (same_choice c.diagrams d.diagrams && sets_before c.extras d.extras) (rw (p, q) (not-false (assignment_before a b) e)))
+    (or_left (assignment_before c.diagrams d.diagrams) (same_choice c.diagrams d.diagrams && sets_before c.extras d.extras)
+    (rw (p, q) (not-false (assignment_before a b) e)))
 
 by_sets : (a : Assignment) (x y : List (List Cell)) → wrong sets_before x y ≡ false →
     wrong configuration_before (configuration a x) (configuration a y) ≡ false
 by_sets a x y e =
     not_from_true (configuration_before (configuration a x) (configuration a y))
-    (or_right (assignment_before a a) (same_choice a a && sets_before x y) (and_from (same_choice a a) (sets_before x y) (pointwise-own same_rows own a) (not-false (sets_before x y) e)))
+    (or_right (assignment_before a a) (same_choice a a && sets_before x y)
+    (and_from (same_choice a a) (sets_before x y) (pointwise-own same_rows own a) (not-false (sets_before x y) e)))
+
+on_assignment-is : (w : Web) (fixed : List Rows) (n : ℤ) (a : Assignment) →
+    AllByRecursion (λ (c : Configuration). c.diagrams ≡ a) (configurations_on w fixed a n)
+on_assignment-is w fixed n a =
+    let fills = fillings_of (all_legs w a fixed) (boxes_left w fixed a n) in
+    all-map (λ (x : List (List Cell)). Unit {0}) (λ (c : Configuration). c.diagrams ≡ a) (configuration a) (λ x none. refl) fills
+    (all-any (λ (x : List (List Cell)). Unit {0}) (λ x. tt) fills)
+
+on_assignment-ordered : (w : Web) (fixed : List Rows) (n : ℤ) (a : Assignment) →
+    Ordered configuration_before (configurations_on w fixed a n)
+on_assignment-ordered w fixed n a =
+    let legs = all_legs w a fixed in
+    let left = boxes_left w fixed a n in
+    distinct-map (wrong sets_before) (wrong configuration_before) (configuration a) (by_sets a) (fillings_of legs left)
+    (fillings_of-ordered legs left)
 
 pub configurations_in_order : ConfigurationsInOrder
 configurations_in_order w fixed v n =
-    let fills : Assignment → List (List (List Cell)) = λ a. fillings_of (all_legs w a fixed) (boxes_left w fixed a n) in
+    let listed = assignments_of w v in
     in_order configuration_before (configurations w fixed v n)
-    (distinct-flat_map (wrong assignment_before) (wrong configuration_before) (λ (a : Assignment) (c : Configuration). c.diagrams ≡ a) (λ a. configurations_on w fixed a n) by_assignment
-    (assignments_of w v) (of_class-ordered w v)
-    (all-any (λ a. AllByRecursion (λ (c : Configuration). c.diagrams ≡ a) (configurations_on w fixed a n)) (λ a. all-map (λ (x : List (List Cell)). Unit {0}) (λ (c : Configuration). c.diagrams ≡ a) (configuration a) (λ x none. refl) (fills a) (all-any (λ (x : List (List Cell)). Unit {0}) (λ x. tt) (fills a))) (assignments_of w v))
-    (all-any (λ a. Ordered configuration_before (configurations_on w fixed a n))
-    (λ a. distinct-map (wrong sets_before) (wrong configuration_before) (configuration a) (by_sets a) (fills a) (fillings_of-ordered (all_legs w a fixed) (boxes_left w fixed a n))) (assignments_of w v)))
+    (distinct-flat_map (wrong assignment_before) (wrong configuration_before)
+    (λ (a : Assignment) (c : Configuration). c.diagrams ≡ a) (λ a. configurations_on w fixed a n) by_assignment
+    listed (of_class-ordered w v)
+    (all-any (λ a. AllByRecursion (λ (c : Configuration). c.diagrams ≡ a) (configurations_on w fixed a n))
+    (on_assignment-is w fixed n) listed)
+    (all-any (λ a. Ordered configuration_before (configurations_on w fixed a n)) (on_assignment-ordered w fixed n) listed))

@@ -27,13 +27,17 @@ ordered-descending (a ∷ []) d = (tt, tt)
 ordered-descending (a ∷ b ∷ lists) d =
     let parts = and_parts (greater a b) (descends (b ∷ lists)) d in
     let rest = ordered-descending (b ∷ lists) parts.1 in
-    ((not_from_true (greater a b) parts.0, all-onto (λ c. wrong greater b c ≡ false) (λ c. wrong greater a c ≡ false) (λ c e. not_from_true (greater a c) (greater-trans a b c parts.0 (not-false (greater b c) e))) lists rest.0), rest)
+    let further : (c : Rows) → wrong greater b c ≡ false → wrong greater a c ≡ false =
+    λ c e. not_from_true (greater a c) (greater-trans a b c parts.0 (not-false (greater b c) e)) in
+    let first = not_from_true (greater a b) parts.0 in
+    ((first, all-onto (λ c. wrong greater b c ≡ false) (λ c. wrong greater a c ≡ false) further lists rest.0), rest)
 
 pub diagrams-size : (n : ℕ) → AllByRecursion (λ rows. size rows ≡ n) (diagrams n)
 diagrams-size n = all-onto (HasSize n) (λ rows. size rows ≡ n) (λ rows is. is.1) (diagrams n) (diagrams_are n)
 
 pub diagrams-ordered : (n : ℕ) → Ordered diagram_before (diagrams n)
-diagrams-ordered n = of_one_number size greater n (diagrams n) (diagrams-size n) (ordered-descending (diagrams n) (diagrams-descend n))
+diagrams-ordered n =
+    of_one_number size greater n (diagrams n) (diagrams-size n) (ordered-descending (diagrams n) (diagrams-descend n))
 
 pub diagrams_in_order : DiagramsInOrder
 diagrams_in_order n = in_order diagram_before (diagrams n) (diagrams-ordered n)

@@ -17,13 +17,19 @@ use Rattle.tv_laws_orders.specs.Orders.{first_differs, set_before}
 use Rattle.tv_laws_orders.specs.Laws.{ExtrasInOrder}
 use Rattle.tv_laws_orders.proofs.Ordered.{wrong, Ordered, in_order, of_one_number, behind}
 
-abbrev earlier : List Cell → List Cell → Bool
+abbrev pub earlier : List Cell → List Cell → Bool
 earlier = first_differs same precedes
 
 -- what begins by a cell comes before a list of later cells that is not empty
-begun-before : (c : Cell) (n : ℕ) (s t : List Cell) → Before c t → length t ≡ suc n → wrong earlier (c ∷ s) t ≡ false
-begun-before c n s [] b e = absurd (omega arith)
-begun-before c n s (d ∷ t) b e = not_from_true (earlier (c ∷ s) (d ∷ t)) (or_left (precedes c d) (same c d && earlier s t) b.0)
+before_one : (c : Cell) (n : ℕ) (s t : List Cell) → Before c t → length t ≡ suc n → wrong earlier (c ∷ s) t ≡ false
+before_one c n s [] b e = absurd (omega arith)
+before_one c n s (d ∷ t) b e = not_from_true (earlier (c ∷ s) (d ∷ t)) (or_left (precedes c d) (same c d && earlier s t) b.0)
+
+begun_before : (c : Cell) (n : ℕ) (s cells : List Cell) → Before c cells →
+    AllByRecursion (λ t. wrong earlier (c ∷ s) t ≡ false) (sublists_of (suc n) cells)
+begun_before c n s cells b =
+    all-both (Before c) (λ t. length t ≡ suc n) (λ t. wrong earlier (c ∷ s) t ≡ false) (before_one c n s)
+    (sublists_of (suc n) cells) (sublists-before c (suc n) cells b) (sublists_of-length (suc n) cells)
 
 pub sublists-ordered : (n : ℕ) (cells : List Cell) → rises cells ≡ true → Ordered earlier (sublists_of n cells)
 unfolding sublists_of IsDistinct
@@ -31,17 +37,20 @@ sublists-ordered zero cells r = (tt, tt)
 sublists-ordered (suc n) [] r = tt
 sublists-ordered (suc n) (c ∷ cells) r =
     let after = rises-tail c cells r in
-    let later = sublists_of (suc n) cells in
-    distinct-append (wrong earlier) (map (λ s. c ∷ s) (sublists_of n cells)) later
-    (distinct-map (wrong earlier) (wrong earlier) (λ s. c ∷ s) (behind same precedes same_itself c) (sublists_of n cells) (sublists-ordered n cells after)) (sublists-ordered (suc n) cells after)
-    (all-map (λ (s : List Cell). Unit {0}) (λ u. AllByRecursion (λ t. wrong earlier u t ≡ false) later) (λ s. c ∷ s)
-    (λ s none. all-both (Before c) (λ t. length t ≡ suc n) (λ t. wrong earlier (c ∷ s) t ≡ false) (begun-before c n s) later (sublists-before c (suc n) cells (before_rising c cells r)) (sublists_of-length (suc n) cells))
-    (sublists_of n cells) (all-any (λ (s : List Cell). Unit {0}) (λ s. tt) (sublists_of n cells)))
+    let without = sublists_of (suc n) cells in
+    distinct-append (wrong earlier) (map (λ s. c ∷ s) (sublists_of n cells)) without
+    (distinct-map (wrong earlier) (wrong earlier) (λ s. c ∷ s) (behind same precedes same_itself c) (sublists_of n cells)
+    (sublists-ordered n cells after))
+    (sublists-ordered (suc n) cells after)
+    (all-map (λ (s : List Cell). Unit {0}) (λ u. AllByRecursion (λ t. wrong earlier u t ≡ false) without) (λ s. c ∷ s)
+    (λ s none. begun_before c n s cells (before_rising c cells r)) (sublists_of n cells)
+    (all-any (λ (s : List Cell). Unit {0}) (λ s. tt) (sublists_of n cells)))
 
 pub extras-length : (legs : Legs) (side i : ℕ) → AllByRecursion (λ s. length s ≡ i) (extras_of legs side i)
 extras-length legs side i =
     let cells = cube (side + extent legs) in
-    all-filter (λ (s : List Cell). length s ≡ i) (λ (s : List Cell). length s ≡ i) (is_extras legs) (λ s e on. e) (sublists_of i cells) (sublists_of-length i cells)
+    let P : List Cell → Type 0 = λ s. length s ≡ i in
+    all-filter P P (is_extras legs) (λ s e on. e) (sublists_of i cells) (sublists_of-length i cells)
 
 pub extras-ordered : (legs : Legs) (side i : ℕ) → Ordered set_before (extras_of legs side i)
 extras-ordered legs side i =

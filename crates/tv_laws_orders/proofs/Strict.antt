@@ -83,7 +83,8 @@ configurations-strict : IsStrict configuration_before
 configurations-strict c d e =
     either_strict (assignment_before c.diagrams d.diagrams) (same_choice c.diagrams d.diagrams) (sets_before c.extras d.extras)
     (assignment_before d.diagrams c.diagrams) (same_choice d.diagrams c.diagrams) (sets_before d.extras c.extras)
-    (assignments-strict c.diagrams d.diagrams) (apart assignment_before assignments-strict same_choice same_choice-tells c.diagrams d.diagrams)
+    (assignments-strict c.diagrams d.diagrams)
+    (apart assignment_before assignments-strict same_choice same_choice-tells c.diagrams d.diagrams)
     (λ s. ap (assignment_before d.diagrams) (same_choice-tells c.diagrams d.diagrams s) ∙ not_itself assignment_before assignments-strict d.diagrams)
     (at_corners-strict c.extras d.extras) e
 

@@ -1,5 +1,5 @@
 -- A list in a strict order is told by its members.
-use Rattle.std.specs.Prelude.{◌≡◌, Contains, suc, Bool, true, List, [], ◌∷◌}
+use Rattle.std.specs.Prelude.{◌≡◌, Contains, suc, Bool, true, false, List, [], ◌∷◌}
 use Rattle.std.proofs.Common.{refl, sym, ap, ◌∙◌, arith, inl, inr}
 use Rattle.std.proofs.lemmas.Bool.{both_ways}
 use Rattle.tv_lemmas.proofs.Members.{contains-head, contains-later, contains-cases}
@@ -37,7 +37,9 @@ module _ {A : Type 0} (before : A → A → Bool) (strict : IsStrict before) whe
   rest-member : (x y z : A) (xs ys : List A) → x ≡ y → IsInOrder before (x ∷ xs) → Contains xs z → Contains (y ∷ ys) z →
       Contains ys z
   rest-member x y z xs ys e o m n = elim (contains-cases z y ys n) [
-    | inl here ↦ absurd (both_ways (before x z) (ap (before x) (sym (e ∙ here)) ∙ not_itself before strict x) (first_before x z xs o m))
+    | inl here ↦
+        let never : before x z ≡ false = ap (before x) (sym (e ∙ here)) ∙ not_itself before strict x in
+        absurd (both_ways (before x z) never (first_before x z xs o m))
     | inr later ↦ later
   ]
 
@@ -47,8 +49,10 @@ module _ {A : Type 0} (before : A → A → Bool) (strict : IsStrict before) whe
   order_tells (x ∷ xs) [] o p m = absurd (no_member x ((m x).0 (contains-head x x xs refl)))
   order_tells (x ∷ xs) (y ∷ ys) o p m =
       let e = firsts-equal x y xs ys o p ((m x).0 (contains-head x x xs refl)) ((m y).1 (contains-head y y ys refl)) in
-      let rest = order_tells xs ys (rest_in_order x xs o) (rest_in_order y ys p)
-      (λ z. (λ a. rest-member x y z xs ys e o a ((m z).0 (contains-later z x xs a)), λ b. rest-member y x z ys xs (sym e) p b ((m z).1 (contains-later z y ys b)))) in
+      let there : (z : A) → Contains xs z → Contains ys z = λ z a. rest-member x y z xs ys e o a ((m z).0 (contains-later z x xs a)) in
+      let back : (z : A) → Contains ys z → Contains xs z =
+      λ z b. rest-member y x z ys xs (sym e) p b ((m z).1 (contains-later z y ys b)) in
+      let rest = order_tells xs ys (rest_in_order x xs o) (rest_in_order y ys p) (λ z. (there z, back z)) in
       ap (λ z. z ∷ xs) e ∙ ap (λ zs. y ∷ zs) rest
 
 pub orders_tell_lists : OrdersTellLists
@@ -67,4 +71,6 @@ assignments_told w d xs graded o all =
 pub configurations_told : ConfigurationsTold
 configurations_told w fixed v n xs graded also o all =
     orders_tell_lists.configurations xs (configurations w fixed v n) o (configurations_in_order w fixed v n)
-    (λ c. let of = all c in let listed = configurations_are_all w fixed v n c graded also in (λ m. listed.1 (of.0 m), λ m. of.1 (listed.0 m)))
+    (λ c. let of = all c in
+    let listed = configurations_are_all w fixed v n c graded also in
+    (λ m. listed.1 (of.0 m), λ m. of.1 (listed.0 m)))

@@ -58,8 +58,12 @@ with_both = corner ∷ along_z ∷ along_y ∷ []
 set_places : map (set_before with_x) ((corner ∷ []) ∷ with_x ∷ with_z ∷ with_both ∷ []) ≡ false ∷ false ∷ true ∷ true ∷ []
 set_places = refl
 
--- nor by the first cells alone
-set_second_cell : map (set_before with_y) (with_z ∷ with_y ∷ with_both ∷ []) ≡ false ∷ false ∷ true ∷ []
+-- beside a leg along z
+abbrev sides : List Cell
+sides = along_x ∷ along_y ∷ []
+
+-- neither by the first cells alone, nor by second cells where the first ones differ
+set_second_cell : map (set_before with_z) (sides ∷ with_z ∷ with_y ∷ with_both ∷ []) ≡ false ∷ false ∷ true ∷ true ∷ []
 set_second_cell = refl
 
 two_extras : extras_of empty_legs 2 2 ≡ with_x ∷ with_z ∷ with_y ∷ []

@@ -1,18 +1,18 @@
--- The lists are in these orders, as laws, and there is one such list of the same members.
+-- The lists are in their orders, as laws, and no other list in order has the same members.
 --
--- DiagramsInOrder       == so are the diagrams of a size
--- ExtrasInOrder         == so are the sets of i extras of a corner
--- AssignmentsInOrder    == so are the assignments of degree at most d
+-- DiagramsInOrder       == the diagrams of a size are in order
+-- ExtrasInOrder         == the sets of i extras of a corner are in order
+-- HasLeast s t          == a cell is in s and not in t, and of the cells before it s and t have the same
+-- SetsByLeastCell       == of two sets with as many cells, each in the order of cells, s comes before t exactly if so
+-- AssignmentsInOrder    == the assignments of degree at most d are in order
 -- AssignmentsOfInOrder  == so are the assignments of a class
 -- ConfigurationsInOrder == so are the configurations of a class and an Euler characteristic
 -- OrdersAreStrict       == in none of the orders do two come before one another
 -- OrderTellsList before == two lists in that order that have the same members are equal
 -- OrdersTellLists       == so it is in each of the orders
 -- AssignmentsTold       == of a graded web, a list in order of exactly the assignments of degree at most d is the one listed
--- ConfigurationsTold    == of a graded web with diagrams on its open edges, so is a list in order of exactly the configurations of
---                          class v and Euler characteristic n
--- HasLeast s t          == a cell is in s and not in t, and of the cells before it s and t have the same
--- SetsByLeastCell       == of two sets of extras with as many cells, each in the order of cells, s comes before t exactly if so
+-- ConfigurationsTold    == of a graded web with diagrams on its open edges, so is a list in order of exactly the
+--                          configurations of class v and Euler characteristic n
 use Rattle.std.specs.Prelude.{◌≡◌, Contains, ℕ, ℤ, Bool, true, false, List, length, ◌↔◌}
 use Rattle.std.specs.List.{AllByRecursion, list_any}
 use Rattle.tv_spec_plane.specs.Web.{Web}
@@ -31,6 +31,16 @@ DiagramsInOrder = (n : ℕ) → IsInOrder diagram_before (diagrams n)
 
 abbrev pub ExtrasInOrder : Type 0
 ExtrasInOrder = (legs : Legs) (side i : ℕ) → IsInOrder set_before (extras_of legs side i)
+
+pub record HasLeast (s t : List Cell) : Type 0 where
+  pub least : Cell
+  pub inside : list_any (same least) s ≡ true
+  pub outside : list_any (same least) t ≡ false
+  pub alike : (d : Cell) → precedes d least ≡ true → list_any (same d) s ≡ list_any (same d) t
+
+abbrev pub SetsByLeastCell : Type 0
+SetsByLeastCell =
+    (s t : List Cell) → rises s ≡ true → rises t ≡ true → length s ≡ length t → (set_before s t ≡ true) ↔ HasLeast s t
 
 abbrev pub AssignmentsInOrder : Type 0
 AssignmentsInOrder = (w : Web) (d : ℕ) → IsInOrder assignment_before (assignments w d)
@@ -68,13 +78,3 @@ ConfigurationsTold =
     (w : Web) (fixed : List Rows) (v : List ℤ) (n : ℤ) (xs : List Configuration) → IsGraded w → AllByRecursion IsDiagram fixed →
     IsInOrder configuration_before xs → ((c : Configuration) → Contains xs c ↔ IsConfiguration w fixed v n c) →
     xs ≡ configurations w fixed v n
-
-pub record HasLeast (s t : List Cell) : Type 0 where
-  pub least : Cell
-  pub inside : list_any (same least) s ≡ true
-  pub outside : list_any (same least) t ≡ false
-  pub alike : (d : Cell) → precedes d least ≡ true → list_any (same d) s ≡ list_any (same d) t
-
-abbrev pub SetsByLeastCell : Type 0
-SetsByLeastCell =
-    (s t : List Cell) → rises s ≡ true → rises t ≡ true → length s ≡ length t → (set_before s t ≡ true) ↔ HasLeast s t

@@ -1,7 +1,8 @@
 //! Laws of the orders of the lists: each function does nothing, and its contract is a law.
 
-ghost use Rattle.tv_laws_orders.specs.Laws.{DiagramsInOrder, ExtrasInOrder, AssignmentsInOrder, AssignmentsOfInOrder, ConfigurationsInOrder};
-ghost use Rattle.tv_laws_orders.specs.Laws.{SetsByLeastCell, OrdersAreStrict, OrdersTellLists, AssignmentsTold, ConfigurationsTold};
+ghost use Rattle.tv_laws_orders.specs.Laws.{DiagramsInOrder, ExtrasInOrder, AssignmentsInOrder, AssignmentsOfInOrder};
+ghost use Rattle.tv_laws_orders.specs.Laws.{ConfigurationsInOrder, SetsByLeastCell, OrdersAreStrict, OrdersTellLists};
+ghost use Rattle.tv_laws_orders.specs.Laws.{AssignmentsTold, ConfigurationsTold};
 
 /// The diagrams of one size: at the first row in which two differ, the greater goes first.
 pub fn diagrams_in_order()
@@ -11,6 +12,12 @@ pub fn diagrams_in_order()
 /// The sets of as many extras at a corner: of two, the one with the least cell in which they differ goes first.
 pub fn extras_in_order()
     ensures { ExtrasInOrder }
+{}
+
+/// For of two sets of as many cells the one that comes before has a cell that the other lacks, and before that cell both
+/// have the same ones.
+pub fn sets_by_least_cell()
+    ensures { SetsByLeastCell }
 {}
 
 /// The assignments of degree at most d: the first edge at which two differ decides, there fewer cells go first, and then
@@ -49,10 +56,4 @@ pub fn assignments_told()
 /// Euler characteristic.
 pub fn configurations_told()
     ensures { ConfigurationsTold }
-{}
-
-/// Of two sets of as many extras the one that comes before has a cell that the other lacks, and before it both have the
-/// same cells.
-pub fn sets_by_least_cell()
-    ensures { SetsByLeastCell }
 {}
