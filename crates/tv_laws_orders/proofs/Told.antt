@@ -2,9 +2,14 @@
 use Rattle.std.specs.Prelude.{◌≡◌, Contains, suc, Bool, true, false, List, [], ◌∷◌}
 use Rattle.std.proofs.Common.{refl, sym, ap, ◌∙◌, arith, inl, inr}
 use Rattle.std.proofs.lemmas.Bool.{both_ways}
-use Rattle.tv_lemmas.proofs.Members.{contains-head, contains-later, contains-cases}
+use Rattle.std.proofs.lemmas.Map.Views.{Contains-from_any}
+use Rattle.tv_lemmas.proofs.Members.{all-contains, contains-head, contains-later, contains-cases}
+use Rattle.tv_partition.specs.Rows.{diagrams}
+use Rattle.tv_partition.proofs.Members.{diagrams-are-all, same_lists}
+use Rattle.tv_laws_counts.proofs.Choices.{HasSize, diagrams_are}
+use Rattle.tv_laws_orders.proofs.Diagrams.{diagrams_in_order}
 use Rattle.tv_laws_orders.specs.Orders.{diagram_before, set_before, assignment_before, configuration_before, IsInOrder, IsStrict}
-use Rattle.tv_laws_orders.specs.Laws.{OrderTellsList, OrdersTellLists, AssignmentsTold, ConfigurationsTold}
+use Rattle.tv_laws_orders.specs.Laws.{OrderTellsList, OrdersTellLists, DiagramsTold, AssignmentsTold, ConfigurationsTold}
 use Rattle.tv_laws_counts.proofs.Assigned.{assignments_are_all}
 use Rattle.tv_laws_counts.proofs.Configured.{configurations_are_all}
 use Rattle.tv_spec_boxes.specs.Assignments.{assignments}
@@ -62,6 +67,14 @@ orders_tell_lists = record {
   assignments = order_tells assignment_before orders_are_strict.assignments;
   configurations = order_tells configuration_before orders_are_strict.configurations;
 }
+
+pub diagrams_told : DiagramsTold
+diagrams_told n xs o all =
+    orders_tell_lists.diagrams xs (diagrams n) o (diagrams_in_order n)
+    (λ rows. let of = all rows in (
+      λ m. Contains-from_any same_lists rows (diagrams n) ((diagrams-are-all n rows).1 (of.0 m)),
+      λ m. of.1 (all-contains (HasSize n) (diagrams n) rows (diagrams_are n) m),
+    ))
 
 pub assignments_told : AssignmentsTold
 assignments_told w d xs graded o all =

@@ -10,6 +10,7 @@
 -- OrdersAreStrict       == in none of the orders do two come before one another
 -- OrderTellsList before == two lists in that order that have the same members are equal
 -- OrdersTellLists       == so it is in each of the orders
+-- DiagramsTold          == a list in order of exactly the diagrams of n cells is the one listed
 -- AssignmentsTold       == of a graded web, a list in order of exactly the assignments of degree at most d is the one listed
 -- ConfigurationsTold    == of a graded web with diagrams on its open edges, so is a list in order of exactly the
 --                          configurations of class v and Euler characteristic n
@@ -17,7 +18,7 @@ use Rattle.std.specs.Prelude.{◌≡◌, Contains, ℕ, ℤ, Bool, true, false, 
 use Rattle.std.specs.List.{AllByRecursion, list_any}
 use Rattle.tv_spec_plane.specs.Web.{Web}
 use Rattle.tv_spec_plane.specs.Graded.{IsGraded}
-use Rattle.tv_partition.specs.Rows.{IsDiagram, diagrams}
+use Rattle.tv_partition.specs.Rows.{IsDiagram, size, diagrams}
 use Rattle.tv_cells.specs.declared.cell.Cell.{Cell}
 use Rattle.tv_cells.specs.declared.legs.Legs.{Legs}
 use Rattle.tv_cells.specs.Cells.{same, precedes, rises}
@@ -67,6 +68,11 @@ pub record OrdersTellLists : Type 0 where
   pub extras : OrderTellsList set_before
   pub assignments : OrderTellsList assignment_before
   pub configurations : OrderTellsList configuration_before
+
+abbrev pub DiagramsTold : Type 0
+DiagramsTold =
+    (n : ℕ) (xs : List Rows) → IsInOrder diagram_before xs →
+    ((rows : Rows) → Contains xs rows ↔ (IsDiagram rows × (size rows ≡ n))) → xs ≡ diagrams n
 
 abbrev pub AssignmentsTold : Type 0
 AssignmentsTold =

@@ -2,7 +2,7 @@
 
 ghost use Rattle.tv_laws_orders.specs.Laws.{DiagramsInOrder, ExtrasInOrder, AssignmentsInOrder, AssignmentsOfInOrder};
 ghost use Rattle.tv_laws_orders.specs.Laws.{ConfigurationsInOrder, SetsByLeastCell, OrdersAreStrict, OrdersTellLists};
-ghost use Rattle.tv_laws_orders.specs.Laws.{AssignmentsTold, ConfigurationsTold};
+ghost use Rattle.tv_laws_orders.specs.Laws.{DiagramsTold, AssignmentsTold, ConfigurationsTold};
 
 /// The diagrams of one size: at the first row in which two differ, the greater goes first.
 pub fn diagrams_in_order()
@@ -47,7 +47,12 @@ pub fn orders_tell_lists()
     ensures { OrdersTellLists }
 {}
 
-/// In a graded web a list in order of exactly the assignments of degree at most d is the list of them.
+/// A list in order of exactly the diagrams of one size is the list of them.
+pub fn diagrams_told()
+    ensures { DiagramsTold }
+{}
+
+/// In a graded web a list in order of exactly the assignments of degree at most d is the list of them, too.
 pub fn assignments_told()
     ensures { AssignmentsTold }
 {}
