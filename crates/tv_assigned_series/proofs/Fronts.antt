@@ -20,8 +20,8 @@ use Rattle.tv_cells.specs.declared.legs.Legs.{Legs}
 use Rattle.tv_cells.specs.Extras.{count}
 use Rattle.tv_vertex.specs.Corners.{extras_times, corner_terms}
 use Rattle.tv_vertex.proofs.Corners.{extras_times-is}
-use Rattle.tv_laws_counts.specs.Ways.{split, spread, corner_ways}
-use Rattle.tv_laws_counts.proofs.Spreads.{split_is, spread_is, total_below-times}
+use Rattle.tv_laws_counts.specs.Ways.{split, convolved, corner_ways}
+use Rattle.tv_laws_counts.proofs.Convolutions.{split_is, convolved_is, total_below-times}
 use Rattle.tv_laws_counts.proofs.InRings.{multiples, convolution-multiples}
 use Rattle.tv_laws_counts.proofs.CornerWays.{front-none, front-next}
 use Rattle.tv_assigned_series.specs.Terms.{front_times, front_terms, IsBeyond}
@@ -54,9 +54,9 @@ module _ {A : Type 0} {IsValue : A → Type 0} {r : Operations A} (laws : RingLa
       let x = size-times laws sizes (f i) in let y = size-times laws sizes (g (k - i)) in
       rw (size_term_is r F G k i, ef i h, eg (k - i) (omega arith), split_is f g k i) (term-small (r.size (times r (f i))) (r.size (times r (g (k - i)))) (f i) (g (k - i)) (r.size r.unit) x y sizes.size-unit)
 
-  size_convolution-multiples : (F G : ℕ → A) (f g : ℕ → ℕ) (k : ℕ) → ((j : ℕ) → j ≤ k → F j ≡ times r (f j)) → ((j : ℕ) → j ≤ k → G j ≡ times r (g j)) → size_convolution r F G k ≤ spread f g k * r.size r.unit
+  size_convolution-multiples : (F G : ℕ → A) (f g : ℕ → ℕ) (k : ℕ) → ((j : ℕ) → j ≤ k → F j ≡ times r (f j)) → ((j : ℕ) → j ≤ k → G j ≡ times r (g j)) → size_convolution r F G k ≤ convolved f g k * r.size r.unit
   size_convolution-multiples F G f g k ef eg =
-      rw (size_convolution_is r F G k, spread_is f g k, ← total_below-times (split f g k) (r.size r.unit) (suc k))
+      rw (size_convolution_is r F G k, convolved_is f g k, ← total_below-times (split f g k) (r.size r.unit) (suc k))
       (total_below-≤ (size_term r F G k) (λ i. split f g k i * r.size r.unit) (suc k) (λ i h. size-multiples F G f g k i (omega arith) ef eg))
 
   -- the coefficients of both factors
@@ -88,8 +88,8 @@ module _ {A : Type 0} {IsValue : A → Type 0} {r : Operations A} (laws : RingLa
         rw (front-at i (omega arith), corner-at l (omega arith), reach-times laws sizes (corner_ways (take t legs) i), reach-times laws sizes (count corner l)) (omega arith)
 
     module _ (listed_at : t < length legs) (here : corner ≡ get_or legs t corner) where
-      next-ways : (i : ℕ) → corner_ways (take (t + 1) legs) i ≡ spread (corner_ways (take t legs)) (count corner) i
-      next-ways i = front-next legs t i corner listed_at ∙ ap (λ l. spread (corner_ways (take t legs)) (count l) i) (sym here)
+      next-ways : (i : ℕ) → corner_ways (take (t + 1) legs) i ≡ convolved (corner_ways (take t legs)) (count corner) i
+      next-ways i = front-next legs t i corner listed_at ∙ ap (λ l. convolved (corner_ways (take t legs)) (count l) i) (sym here)
 
       product-at : (i : ℕ) → i ≤ k → convolution r (at r a.coefficients) (at r b.coefficients) i ≡ front_times r (take (t + 1) legs) i
       product-at i h =

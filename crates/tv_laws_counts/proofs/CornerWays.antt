@@ -7,12 +7,12 @@ use Rattle.std.proofs.lemmas.Bool.Decides.{nat_tests}
 use Rattle.tv_cells.specs.declared.legs.Legs.{Legs}
 use Rattle.tv_cells.specs.Extras.{count}
 use Rattle.tv_laws_counts.proofs.Larger.{no_extras}
-use Rattle.tv_laws_counts.specs.Ways.{split, spread, ways, corner_ways}
+use Rattle.tv_laws_counts.specs.Ways.{split, convolved, ways, corner_ways}
 use Rattle.tv_lemmas.proofs.Members.{all-onto}
-use Rattle.tv_laws_counts.proofs.Spreads.{spread-none, spread-≤, total_below-term, ways_last}
+use Rattle.tv_laws_counts.proofs.Convolutions.{convolved-none, convolved-≤, total_below-term, ways_last}
 
 -- the convolution of the first corners and the next one
-pub front-next : (legs : List Legs) (k n : ℕ) (d : Legs) → k < length legs → corner_ways (take (k + 1) legs) n ≡ spread (corner_ways (take k legs)) (count (slice_index_or legs k d)) n
+pub front-next : (legs : List Legs) (k n : ℕ) (d : Legs) → k < length legs → corner_ways (take (k + 1) legs) n ≡ convolved (corner_ways (take k legs)) (count (slice_index_or legs k d)) n
 front-next legs k n d h =
     ap (λ ls. corner_ways ls n) (take_more legs k d h)
     ∙ (ap (λ cs. ways cs n) (map-append count (take k legs) (slice_index_or legs k d ∷ []))
@@ -28,14 +28,14 @@ front-all legs k n h = ap (λ ls. corner_ways ls n) (take_all k legs h)
 pub ways-start : (legs : List Legs) → corner_ways legs 0 ≡ 1
 unfolding ways
 ways-start [] = refl
-ways-start (l ∷ legs) = spread-none (count l) (corner_ways legs) ∙ (ap (λ x. x * corner_ways legs 0) (no_extras l) ∙ (let rest = ways-start legs in omega arith))
+ways-start (l ∷ legs) = convolved-none (count l) (corner_ways legs) ∙ (ap (λ x. x * corner_ways legs 0) (no_extras l) ∙ (let rest = ways-start legs in omega arith))
 
 one-times : (x : ℕ) → 1 * x ≡ x
 one-times x = omega arith
 
 -- a further corner
 pub ways-later : (l : Legs) (legs : List Legs) (n : ℕ) → corner_ways legs n ≤ corner_ways (l ∷ legs) n
-unfolding ways spread split
+unfolding ways convolved split
 ways-later l legs n =
     let first = total_below-term (split (count l) (corner_ways legs) n) (suc n) 0 (omega arith) in
     let whole : n - 0 ≡ n = omega arith in
@@ -43,7 +43,7 @@ ways-later l legs n =
     omega arith
 
 pub ways-here : (l : Legs) (legs : List Legs) (n : ℕ) → count l n ≤ corner_ways (l ∷ legs) n
-unfolding ways spread split
+unfolding ways convolved split
 ways-here l legs n =
     let last = total_below-term (split (count l) (corner_ways legs) n) (suc n) n (omega arith) in
     let one : count l n * corner_ways legs (n - n) ≡ count l n = ap (λ k. count l n * corner_ways legs k) (omega arith) ∙ (ap (λ x. count l n * x) (ways-start legs) ∙ omega arith) in
@@ -57,7 +57,7 @@ pub ways-front : (k : ℕ) (legs : List Legs) (n : ℕ) → corner_ways (take k 
 unfolding ways
 ways-front zero legs n = ways-none legs n (nat_eq n 0) refl
 ways-front (suc k) [] n = omega arith
-ways-front (suc k) (l ∷ legs) n = spread-≤ (count l) (corner_ways (take k legs)) (corner_ways legs) n (ways-front k legs)
+ways-front (suc k) (l ∷ legs) n = convolved-≤ (count l) (corner_ways (take k legs)) (corner_ways legs) n (ways-front k legs)
 
 pub ways-each : (legs : List Legs) (n : ℕ) → AllByRecursion (λ l. count l n ≤ corner_ways legs n) legs
 ways-each [] n = tt

@@ -16,7 +16,7 @@ use Rattle.tv_cells.specs.Extras.{AreDiagrams, count}
 use Rattle.tv_laws_counts.proofs.Larger.{larger_count}
 use Rattle.tv_spec_boxes.specs.Assignments.{Rows, Assignment, rows_at, legs_of, all_legs}
 use Rattle.tv_spec_boxes.specs.Configurations.{extras_of, fillings, fillings_of, boxes_left, configuration}
-use Rattle.tv_laws_counts.specs.Ways.{split, spread, ways, corner_ways, ways_at}
+use Rattle.tv_laws_counts.specs.Ways.{split, convolved, ways, corner_ways, ways_at}
 use Rattle.tv_laws_counts.specs.Laws.{FillingsCounted, ConfigurationsCounted}
 use Rattle.tv_lemmas.proofs.Lists.{length-pairs}
 use Rattle.tv_lemmas.proofs.Members.{all-map, all-any, all-everywhere}
@@ -37,7 +37,7 @@ length-cond true x = refl
 length-cond false x = refl
 
 pub fillings_counted : FillingsCounted
-unfolding fillings ways spread
+unfolding fillings ways convolved
 fillings_counted [] side n all h = length-cond (nat_eq n 0) []
 fillings_counted (legs ∷ rest) side n all h =
     length-numbered (with_first legs rest side n) 0 (suc n)

@@ -1,5 +1,5 @@
 mod Values
-pub mod Spreads
+pub mod Convolutions
 pub mod Lists
 pub mod InRings
 pub mod Fillings

@@ -4,7 +4,7 @@ use Rattle.std.specs.List.{flat_map, range_with_len}
 use Rattle.std.proofs.Common.{sym, ap, ◌∙◌, arith, length-append}
 use Rattle.tv_ring.specs.Sums.{total_below}
 use Rattle.tv_ring.proofs.Sums.{total_below-none, total_below-same}
-use Rattle.tv_laws_counts.proofs.Spreads.{after_first, total_below-front}
+use Rattle.tv_laws_counts.proofs.Convolutions.{after_first, total_below-front}
 
 pub length-numbered : {A : Type 0} (f : ℕ → List A) (k n : ℕ) → length (flat_map f (range_with_len k n)) ≡ total_below (λ i. length (f (k + i))) n
 length-numbered f k zero = sym (total_below-none (λ i. length (f (k + i))))

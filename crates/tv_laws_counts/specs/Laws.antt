@@ -24,7 +24,7 @@ use Rattle.tv_spec_boxes.specs.Assignments.{Rows, Assignment, all_legs, class_of
 use Rattle.tv_spec_boxes.specs.Configurations.{fillings, boxes_left, configurations_on, signed_count}
 use Rattle.tv_spec_boxes.specs.Numbers.{lowest, box_bound, crowd}
 use Rattle.tv_spec_plane.specs.Graded.{IsGraded}
-use Rattle.tv_laws_counts.specs.Ways.{spread, ways, corner_ways, ways_at, start_of, assignment_coefficient, IsListed}
+use Rattle.tv_laws_counts.specs.Ways.{convolved, ways, corner_ways, ways_at, start_of, assignment_coefficient, IsListed}
 
 abbrev pub FillingsCounted : Type 0
 FillingsCounted = (legs : List Legs) (side n : ℕ) → AllByRecursion AreDiagrams legs → n ≤ side → length (fillings legs side n) ≡ corner_ways legs n
@@ -63,4 +63,4 @@ abbrev pub WaysSwap : Type 0
 WaysSwap = (b c : ℕ → ℕ) (cs : List (ℕ → ℕ)) (n : ℕ) → ways (b ∷ c ∷ cs) n ≡ ways (c ∷ b ∷ cs) n
 
 abbrev pub WaysLast : Type 0
-WaysLast = (cs : List (ℕ → ℕ)) (c : ℕ → ℕ) (n : ℕ) → ways (cs ++ c ∷ []) n ≡ spread (ways cs) c n
+WaysLast = (cs : List (ℕ → ℕ)) (c : ℕ → ℕ) (n : ℕ) → ways (cs ++ c ∷ []) n ≡ convolved (ways cs) c n

@@ -1,7 +1,7 @@
 -- In how many ways boxes are split over corners, and what one assignment adds to the signed count.
 --
 -- split c f n i       == the ways with i of n boxes at the first corner: c i there, f (n - i) at the others
--- spread c f n        == the convolution of c and f at n, a sum over the n + 1 numbers of boxes at the first corner
+-- convolved c f n        == the convolution of c and f at n, a sum over the n + 1 numbers of boxes at the first corner
 -- ways cs n           == the convolution of the counts cs at n: the ways to split n boxes over corners with these counts
 -- corner_ways legs n  == the same of the counts of these corners
 -- ways_at legs z      == the same at a whole number; 0 below 0
@@ -23,12 +23,12 @@ use Rattle.tv_spec_boxes.specs.Configurations.{boxes_left}
 unfoldable pub split : (ℕ → ℕ) → (ℕ → ℕ) → ℕ → ℕ → ℕ
 split c f n i = c i * f (n - i)
 
-unfoldable pub spread : (ℕ → ℕ) → (ℕ → ℕ) → ℕ → ℕ
-spread c f n = total_below (split c f n) (suc n)
+unfoldable pub convolved : (ℕ → ℕ) → (ℕ → ℕ) → ℕ → ℕ
+convolved c f n = total_below (split c f n) (suc n)
 
 unfoldable pub ways : List (ℕ → ℕ) → ℕ → ℕ
 ways [] n = cond (nat_eq n 0) 1 0
-ways (c ∷ cs) n = spread c (ways cs) n
+ways (c ∷ cs) n = convolved c (ways cs) n
 
 abbrev pub corner_ways : List Legs → ℕ → ℕ
 corner_ways legs n = ways (map count legs) n

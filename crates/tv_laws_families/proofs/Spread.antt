@@ -12,7 +12,7 @@ use Rattle.tv_ring.proofs.Sizes.{size-whole_times}
 use Rattle.tv_laws_series.specs.Terms.{Terms, above}
 use Rattle.tv_laws_series.specs.Quotients.{series_quotient}
 use Rattle.tv_laws_series.proofs.Exponents.{above_is}
-use Rattle.tv_laws_counts.proofs.Spreads.{after_first, total_below-front, total_below-times}
+use Rattle.tv_laws_counts.proofs.Convolutions.{after_first, total_below-front, total_below-times}
 use Rattle.tv_spec_series.specs.Reduced.{quotient_size}
 use Rattle.tv_laws_series.proofs.Coefficients.{coefficient_at}
 use Rattle.tv_spec_series.proofs.Products.{quotient_size_is}

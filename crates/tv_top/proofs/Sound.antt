@@ -12,7 +12,7 @@ use Rattle.tv_triangulation.specs.Triangulated.{IsTiled}
 use Rattle.tv_triangulation.proofs.Accepted.{passing_triangles_tile}
 use Rattle.tv_triangulation.specs.Mesh.{Mesh}
 use Rattle.tv_triangulation.specs.Turned.{turned}
-use Rattle.tv_triangulation.specs.Faults.{IsAnswer, IsAccepted as PassesChecks}
+use Rattle.tv_triangulation.specs.Faults.{IsAnswer, PassesChecks}
 use Rattle.tv_web.specs.Built.{bare_web}
 use Rattle.tv_degrees.specs.Edges.{edge_at, with_heights}
 use Rattle.tv_degrees.specs.Grades.{IsFirstLow}

@@ -3,7 +3,7 @@
 ghost use Rattle.std.specs.Prelude.{◌≡◌, length, vec_len, MatchResult};
 ghost use Rattle.std.specs.List.{AllByRecursion};
 ghost use Rattle.tv_lattice.specs.Limits.{IsHeight};
-ghost use Rattle.tv_triangulation.specs.Faults.{IsAccepted as PassesChecks};
+ghost use Rattle.tv_triangulation.specs.Faults.{PassesChecks};
 ghost use Rattle.tv_web.specs.Built.{bare_web};
 ghost use Rattle.tv_degrees.specs.Edges.{with_heights};
 ghost use Rattle.tv_spec_plane.specs.Graded.{IsGraded};

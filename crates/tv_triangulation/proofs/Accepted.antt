@@ -10,7 +10,7 @@ use Rattle.tv_spec_plane.proofs.Turns.{turn-exchange}
 use Rattle.tv_triangulation.specs.Mesh.{Mesh, IsTriangulated}
 use Rattle.tv_triangulation.specs.Turned.{turn_of, turned_of, turned, IsUnit}
 use Rattle.tv_triangulation.specs.Checks.{AreListed, AreUnit}
-use Rattle.tv_triangulation.specs.Faults.{IsAccepted}
+use Rattle.tv_triangulation.specs.Faults.{PassesChecks}
 use Rattle.tv_spec_plane.specs.Web.{NamesAll}
 use Rattle.tv_triangulation.specs.Laws.{PassingTrianglesTile, TilingTrianglesPass, OneTriangleIsACorner}
 use Rattle.tv_triangulation.proofs.Tilings.{accepted-tiles}
@@ -33,7 +33,7 @@ unturned : (ps : List Point) (ts : List Triple) → AreTurned ps (turned ps ts) 
 unturned ps [] h = (tt, tt)
 unturned ps (t ∷ ts) h = let first = unturned_by ps t (int_lt (turn_of ps t) (pos 0)) h.0 in let rest = unturned ps ts h.1 in ((first.0, rest.0), (first.1, rest.1))
 
-mesh_of : (ps : List Point) (ts : List Triple) (m : Mesh) → IsAccepted ps ts m → IsTriangulated (record { points = ps; triangles = turned ps ts })
+mesh_of : (ps : List Point) (ts : List Triple) (m : Mesh) → PassesChecks ps ts m → IsTriangulated (record { points = ps; triangles = turned ps ts })
 mesh_of ps ts m h = subst IsTriangulated h.whole h.triangulated
 
 pub passing_triangles_tile : PassingTrianglesTile

@@ -26,7 +26,7 @@ use Rattle.tv_hull.specs.Points.{IsRepeat}
 use Rattle.tv_triangulation.specs.Mesh.{Mesh, IsTriangulated}
 use Rattle.tv_triangulation.specs.Turned.{turn_of, turned_of, turned, IsUnit}
 use Rattle.tv_triangulation.specs.Checks.{AreListed, AreUnit}
-use Rattle.tv_triangulation.specs.Faults.{IsFullSet, IsMisfit, IsFirstFault, IsAnswer, IsEarlyAnswer, IsAccepted}
+use Rattle.tv_triangulation.specs.Faults.{IsFullSet, IsMisfit, IsFirstFault, IsAnswer, IsEarlyAnswer, PassesChecks}
 use Rattle.tv_triangulation.proofs.Turning.{turned-all}
 use Rattle.tv_triangulation.proofs.Untwisted.{exchange_at, length-turned}
 
@@ -37,7 +37,7 @@ tiles-turned ps ts = exchanged_triangles_tile ps ts (turned ps ts) (length-turne
 pub triangulated-tiles : (m : Mesh) → AllByRecursion HasCoordinates m.points → IsTriangulated m → Tiles m.points m.triangles
 triangulated-tiles m small mesh = matched_triangles_tile m.points m.triangles mesh.hull small mesh.spread mesh.is_hull mesh.turned mesh.matched
 
-pub accepted-tiles : (ps : List Point) (ts : List Triple) (m : Mesh) → AllByRecursion HasCoordinates ps → IsAccepted ps ts m → Tiles ps ts
+pub accepted-tiles : (ps : List Point) (ts : List Triple) (m : Mesh) → AllByRecursion HasCoordinates ps → PassesChecks ps ts m → Tiles ps ts
 accepted-tiles ps ts m small accepted = (tiles-turned ps ts).1 (triangulated-tiles (record { points = ps; triangles = turned ps ts }) small (subst IsTriangulated accepted.whole accepted.triangulated))
 
 -- where a place is past the end of the list

@@ -8,7 +8,7 @@
 -- IsFirstFault ps ts f == f is the first check that fails, with its first number or pair, in the order of the cases
 -- IsAnswer ps ts e     == e is that fault, or want of memory
 -- IsEarlyAnswer ps ts e == the same, of the checks up to that of points on one line
--- IsAccepted ps ts m   == m has the points and the turned triangles, and they are triangulated
+-- PassesChecks ps ts m   == m has the points and the turned triangles, and they are triangulated
 use Rattle.std.specs.Prelude.{◌≡◌, ℕ, pos, List, ⊤}
 use Rattle.tv_spec_plane.specs.declared.records.Triple.{Triple}
 use Rattle.tv_spec_plane.specs.Plane.{Point, IsHullSegment}
@@ -62,6 +62,6 @@ IsEarlyAnswer ps ts (Fault Flat) = AreDistinct ps × AreListed ps ts × IsFlat p
 IsEarlyAnswer ps ts (Fault f) = ⊥
 IsEarlyAnswer ps ts Memory = ⊤
 
-pub record IsAccepted (ps : List Point) (ts : List Triple) (m : Mesh) : Type 0 where
+pub record PassesChecks (ps : List Point) (ts : List Triple) (m : Mesh) : Type 0 where
   pub whole : m ≡ record { points = ps; triangles = turned ps ts }
   pub triangulated : IsTriangulated m

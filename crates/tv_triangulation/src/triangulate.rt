@@ -4,7 +4,7 @@ ghost use Rattle.std.specs.Prelude.{◌≡◌, ◌≤◌, length, IsOkUnless, Ma
 ghost use Rattle.tv_spec_plane.specs.Tiling.{Tiles};
 ghost use Rattle.tv_laws_tiling.specs.Hull.{IsHull};
 ghost use Rattle.tv_triangulation.specs.Checks.{AreListed};
-ghost use Rattle.tv_triangulation.specs.Faults.{IsFullSet, AreSound, IsAnswer, IsEarlyAnswer, IsAccepted};
+ghost use Rattle.tv_triangulation.specs.Faults.{IsFullSet, AreSound, IsAnswer, IsEarlyAnswer, PassesChecks};
 
 use crate::area::first_uneven;
 use crate::edges::edges_of;
@@ -32,7 +32,7 @@ pub fn triangulate(
 ) -> Result<Triangulation, InputError>
     requires points { length points.now ≤ MOST_POINTS }
     requires triangles { length triangles.now ≤ MOST_TRIANGLES }
-    ensures checks { MatchResult result (IsAccepted points.now triangles.now) (IsAnswer points.now triangles.now) }
+    ensures checks { MatchResult result (PassesChecks points.now triangles.now) (IsAnswer points.now triangles.now) }
     ensures tiles { OnOk result (Tiles points.now triangles.now) }
     ensures accepts { AreSound points.now triangles.now → Tiles points.now triangles.now → IsOkUnless result InputError.Memory }
 {
@@ -53,7 +53,7 @@ fn fitted(
     requires hull { IsHull points.now hull.now }
     requires spread { IsFullSet points.now }
     requires listed { AreListed points.now triangles.now }
-    ensures { MatchResult result (IsAccepted points.now triangles.now) (IsAnswer points.now triangles.now) }
+    ensures { MatchResult result (PassesChecks points.now triangles.now) (IsAnswer points.now triangles.now) }
 {
     if let Some((t, doubled)) = first_uneven(points, triangles) {
         return Err(refused(FileFault::Area(t as u32, doubled)));

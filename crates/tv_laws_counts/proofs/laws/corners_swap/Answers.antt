@@ -1,4 +1,4 @@
-use Rattle.tv_laws_counts.proofs.Spreads.{ways_swap}
+use Rattle.tv_laws_counts.proofs.Convolutions.{ways_swap}
 use Rattle.tv_laws_counts.proofs.laws.corners_swap.Goals as goal
 
 pub returns : goal.returns

@@ -1,4 +1,4 @@
-use Rattle.tv_laws_counts.proofs.Spreads.{ways_last}
+use Rattle.tv_laws_counts.proofs.Convolutions.{ways_last}
 use Rattle.tv_laws_counts.proofs.laws.last_corner_is_convolution.Goals as goal
 
 pub returns : goal.returns
