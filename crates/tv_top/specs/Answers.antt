@@ -20,8 +20,8 @@
 --                             in at most one read more than bytes, and nothing was read where the words are refused, or where
 --                             the command is about a grid
 -- Answers ws io out result == some status and text are deserved, and were told. Where a source or a sink doesn't tell its
---                             bytes, what is said of them holds of None; a run can't ask whether they tell, so what it does
---                             is the same over those that do. Want of memory is deserved always
+--                             bytes, what is said of them holds of None; over answers that one which tells could give, a
+--                             run does the same. Want of memory is deserved always
 use Rattle.std.specs.Prelude.{◌≡◌, ℕ, ◌+◌, ◌≤◌, ◌⊎◌, pos, List, [], ◌∷◌, length, take, codes, Option, Some, None}
 use Rattle.std.specs.Io.KnownBytes.{Appends, Consumes, IsAtEnd}
 use Rattle.tv_spec_plane.specs.Web.{Web}

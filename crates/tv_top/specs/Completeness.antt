@@ -1,9 +1,9 @@
 -- What a run must answer, where nothing fails. It follows from what each status deserves, and says which answers are left.
 --
--- Completes ws io out result == where no count of faults rises, and, for the first two, the source tells its bytes:
---   accepted: a command and a web that it is about, of an accepted file or of a grid, give Done, or Wide with its cause, or want
---             of memory
---   refused:  a command that is about a file, and a file that is refused, give File, or want of memory
+-- Completes ws io out result == where no count of faults rises (for `words` that of the sink):
+--   accepted: a command and a web that it is about, of an accepted file that the source tells or of a grid, give Done, or Wide
+--             with its cause, or want of memory
+--   refused:  a command that is about a file, and told bytes that are refused, give File, or want of memory
 --   words:    words that are no command give Words, or want of memory, whatever the source holds
 -- IsGiven side io w   == w is the web of the accepted file that the source tells, or that of the grid of that side
 -- NothingFails io out == no count of faults rose in the call, and none stood at its last number

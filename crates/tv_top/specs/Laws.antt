@@ -1,5 +1,6 @@
 -- What is true of accepted files, as laws.
 --
+-- WordsHaveLimits           == sides from 1 to 7, degrees to 24 and orders from -64 to 64 are those that words may ask for
 -- AcceptedIsNotRefused      == bytes that are accepted have no fault: acceptance and refusal exclude each other
 -- AcceptedAsOneWeb          == bytes are accepted as one web at most
 -- GridIsAccepted            == the file of a grid is accepted, with the grid as its web
@@ -10,7 +11,7 @@
 -- AcceptedNoneCancels       == a coefficient, the signed count of the configurations, is the sign of its class and exponent
 --                              times their number
 -- AcceptedSizeIsNumber      == so the absolute value of a coefficient is the number of its configurations
-use Rattle.std.specs.Prelude.{◌≡◌, ℕ, ℤ, pos, ◌*ℤ◌, unsigned_abs, List, length}
+use Rattle.std.specs.Prelude.{◌≡◌, ℕ, ℤ, pos, neg_ℤ, ◌*ℤ◌, unsigned_abs, List, length}
 use Rattle.tv_lattice.specs.declared.fault.FileFault.{FileFault}
 use Rattle.tv_spec_plane.specs.Web.{Web, class_sign}
 use Rattle.tv_spec_boxes.specs.Assignments.{Rows, class_of}
@@ -19,9 +20,17 @@ use Rattle.tv_spec_series.specs.Reduced.{full_coefficient}
 use Rattle.tv_laws_edges.specs.Rule.{HasEdgeRule}
 use Rattle.tv_spec_partial.specs.Partial.{partial_chi, partial_sign}
 use Rattle.tv_spec_reports.specs.Grids.{grid, grid_text}
+use Rattle.tv_top.specs.declared.command.TheConstants.{MIN_SIDE, MAX_SIDE, MAX_DEGREE, MIN_ORDER, MAX_ORDER}
 use Rattle.tv_top.specs.Commands.{IsSide}
 use Rattle.tv_top.specs.Acceptance.{IsAccepted}
 use Rattle.tv_top.specs.Rejections.{FaultOf}
+
+pub record WordsHaveLimits : Type 0 where
+  pub least_side : MIN_SIDE ≡ pos 1
+  pub greatest_side : MAX_SIDE ≡ pos 7
+  pub greatest_degree : MAX_DEGREE ≡ pos 24
+  pub least_order : MIN_ORDER ≡ neg_ℤ (pos 64)
+  pub greatest_order : MAX_ORDER ≡ pos 64
 
 abbrev pub AcceptedIsNotRefused : Type 0
 AcceptedIsNotRefused = (bytes : List ℕ) (w : Web) (f : FileFault) → IsAccepted bytes w → FaultOf bytes f → ⊥

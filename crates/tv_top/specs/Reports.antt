@@ -5,7 +5,8 @@
 --                            large
 -- IsSeriesWide k w d n line == a bound of the work on the series of that kind passes 2^127 - 1, and the line names where. The
 --                            bounds are this project's own: one may pass it though each coefficient is small
--- IsReport c w text == the text is the command's report of the web, which is the grid where the command names one
+-- IsReport c w text == the text is the command's report of the web; that of a grid is told by its side alone, and `IsOver` says
+--                     that the web is that grid
 -- IsWide c w line   == a bound of the command's work passes 2^127 - 1, and the line names some place where it does
 use Rattle.std.specs.Prelude.{◌≡◌, ◌⊎◌, ℕ, ℤ, List}
 use Rattle.tv_spec_plane.specs.Web.{Web}

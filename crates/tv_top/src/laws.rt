@@ -1,7 +1,12 @@
 //! Laws of accepted files: each function does nothing, and its contract is true of every file that the program takes, and of
 //! its web.
 
-ghost use Rattle.tv_top.specs.Laws.{GridIsAccepted, AcceptedIsNotRefused, AcceptedAsOneWeb, AcceptedHasEdgeRule, AcceptedConfigurationSign, AcceptedPartialSign, AcceptedNoneCancels, AcceptedSizeIsNumber};
+ghost use Rattle.tv_top.specs.Laws.{WordsHaveLimits, GridIsAccepted, AcceptedIsNotRefused, AcceptedAsOneWeb, AcceptedHasEdgeRule, AcceptedConfigurationSign, AcceptedPartialSign, AcceptedNoneCancels, AcceptedSizeIsNumber};
+
+/// What words may ask for: sides from 1 to 7, degrees from 0 to 24, orders from -64 to 64.
+pub fn words_have_limits()
+    ensures { WordsHaveLimits }
+{}
 
 /// No bytes are both accepted and refused.
 pub fn accepted_file_is_not_refused()

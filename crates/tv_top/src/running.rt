@@ -15,9 +15,10 @@ const MEMORY_TEXT: &[u8] = b"refused memory\n";
 
 const READ_TEXT: &[u8] = b"refused read\n";
 
-/// Carries out the command that the words give, over the source's bytes, and writes its report or one refusal.
+/// Carries out the command that the words give, over the source's bytes or a grid, and writes its report or one refusal.
 ///
-/// The words are read first; then the source to its end; then the whole text is made; last it is written. Want of
+/// The words are read first; then, where the command is about a file, the source to its end; then the whole text is made;
+/// last it is written. Want of
 /// memory may come at any time before that.
 pub fn run<S: Source, K: Sink>(
     alloc: Global,
