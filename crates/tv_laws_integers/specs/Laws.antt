@@ -8,11 +8,11 @@
 -- GoesOn D f read back is == the integers `is` with what is then read of `back` are the integers of the family, and the product
 --                       keeps its values at the classes that were read
 -- IntegersGoOn       == so it is over any closed list of classes
--- AgreeEverywhere    == where product and normalized family agree through N at each class of a closed list, they do at every
---                       class of degree at most D
+-- AgreeEverywhere    == where the product over integers at classes of a closed list and a normalized family agree through N at
+--                       each class of that list, they do at every class of degree at most D
 -- SlopeOfSeries      == the greatest slope of the integers is the least c such that each series begins at - c * degree or above;
 --                       so it is known before the first integer
--- ReducedNormalized  == a reduced family of a graded web with a height for each point and all open edges empty is normalized
+-- ReducedNormalized  == a reduced family, through an exponent of at least 0, of a graded web with a height for each point and all open edges empty is normalized
 -- MismatchFirst      == a mismatch of a normalized family is the first place at which it differs from the product over what is
 --                       read off it
 -- MismatchOnly       == a family has at most one mismatch

@@ -1,11 +1,14 @@
 //! Laws of the integers of a family: each function does nothing, and its contract is a law. A family is normalized where class
 //! zero has the series 1 and every other class a degree of at least 1. A list of classes of degree 1 to D is closed where it is
-//! in order and has the classes of the family and, with any two of its classes, their sum.
+//! in order and has the classes of the family in these degrees and, with any two of its classes, their sum of degree at most D.
+//! Coefficients of a family are 0 beyond what it knows; who wants the integers of a series asks for a family that is known to
+//! degree D and through exponent 1.
 
 ghost use Rattle.tv_laws_integers.specs.Laws.{ReducedNormalized, IntegersAre, IntegersOnly, OnlyWhereTheyBegin, IntegersListed};
 ghost use Rattle.tv_laws_integers.specs.Laws.{IntegersGoOn, AgreeEverywhere, SlopeOfSeries, MismatchFirst, MismatchOnly, NoMismatch, MismatchSeen};
 
-/// The reduced family of a graded web that has a height for each point and no diagrams on its open edges is normalized.
+/// The reduced family, through an exponent of at least 0, of a graded web that has a height for each point and no diagrams on
+/// its open edges is normalized.
 pub fn reduced_is_normalized()
     ensures { ReducedNormalized }
 {}
@@ -22,12 +25,13 @@ pub fn integers_only()
     ensures { IntegersOnly }
 {}
 
-/// Two such lists are the same where their products agree at the classes of the integers of both, at the exponents 1 - genus.
+/// Two lists of integers in that order are the same where their products agree at the classes of the integers of both, at the
+/// exponents 1 - genus.
 pub fn only_where_they_begin()
     ensures { OnlyWhereTheyBegin }
 {}
 
-/// The integers stand at classes of each closed list alone.
+/// The integers of a normalized family stand only at classes that every closed list has.
 pub fn integers_listed()
     ensures { IntegersListed }
 {}
@@ -37,7 +41,8 @@ pub fn integers_go_on()
     ensures { IntegersGoOn }
 {}
 
-/// Where product and family agree through N at the classes of a closed list, they do at all classes of degree at most D.
+/// Where the product over integers at classes of a closed list and a normalized family agree through N at the classes of that
+/// list, they do at all classes of degree at most D.
 pub fn agree_everywhere()
     ensures { AgreeEverywhere }
 {}
@@ -48,7 +53,7 @@ pub fn slope_of_series()
     ensures { SlopeOfSeries }
 {}
 
-/// The mismatch of a family is the first class of degree at most D, and in it the first exponent at most N, at which it differs
+/// The mismatch of a normalized family is the first class of degree at most D, and in it the first exponent at most N, at which it differs
 /// from the product over what is read off it.
 pub fn mismatch_first()
     ensures { MismatchFirst }

@@ -6,7 +6,7 @@
 -- power-size             the coefficient of a power of 1 - X is at most that of the power without sign
 -- size_of_product        the size of a coefficient
 -- sizes_of_terms         the sizes of all terms of the recurrence
--- size_of_katz, sizes_of_katz_terms  the same of Katz's product; factors-rise, whose factors have degrees of at least 1
+-- size_of_katz, sizes_of_factor_terms  the same of Katz's product; factors-rise, whose factors have degrees of at least 1
 use Rattle.std.specs.Prelude.{◌≡◌, ℕ, zero, suc, ◌+◌, ◌*◌, ◌<◌, ◌≤◌, ℤ, pos, negsuc, ◌*ℤ◌, neg_ℤ, ◌≤ℤ◌, unsigned_abs, Bool, true, false, ◌&&◌, if◌then◌else◌, List, [], ◌∷◌, map}
 use Rattle.std.specs.List.{AllByRecursion}
 use Rattle.std.specs.Ordering.{int_eq}
@@ -27,7 +27,7 @@ use Rattle.tv_laws_katz.proofs.LargerBound.{positive-all, product-absolute}
 use Rattle.tv_laws_katz.proofs.Leading.{IsHigh}
 use Rattle.tv_laws_katz.specs.Weights.{IsRising}
 use Rattle.tv_laws_katz.specs.Recurrence.{log_of, logs}
-use Rattle.tv_laws_katz.specs.Sizes.{log_size, log_sizes, SizeOfProduct, SizesOfTerms, SizeOfKatz, SizesOfKatzTerms}
+use Rattle.tv_laws_katz.specs.Sizes.{log_size, log_sizes, SizeOfProduct, SizesOfTerms, SizeOfKatz, SizesOfFactorTerms}
 use Rattle.tv_laws_katz.proofs.Powers.{power_at-negsuc, power_sign-size, choose-more}
 use Rattle.tv_laws_katz.proofs.ProductRecurrence.{factor_recurrence}
 
@@ -116,8 +116,8 @@ pub factors-rise : (hs : List ℤ) (J : ℕ) (is : List Integer) → AllByRecurs
 factors-rise hs J is positive = all-flat_map (IsPositive hs) IsRising (λ i. factors_by hs i.genus J i)
     (λ i h. all-onto (IsHigh (pos 1)) IsRising (λ f high. high.rising) (factors_by hs i.genus J i) (factors-high hs i.genus J i (pos 1) refl h h)) is positive
 
-pub sizes_of_katz_terms : SizesOfKatzTerms
-sizes_of_katz_terms hs w D J is v n within most low =
+pub sizes_of_factor_terms : SizesOfFactorTerms
+sizes_of_factor_terms hs w D J is v n within most low =
     let fs = factors hs J is in
     let whole = sizes_of_terms D fs (place hs v n) (factors-rise hs J is (positive-all hs w is within)) most in
     rw (product-absolute hs w is v n J within low) whole

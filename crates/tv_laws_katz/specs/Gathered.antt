@@ -8,7 +8,8 @@
 -- gathered_size hs w D T fs p B == the sizes of these terms
 -- IsListedFactor hs w Bs p f == the factor has the degree of its class by the heights, at least 1, a weight of at least 0, and a
 --                          class that is among Bs or of a degree above that of p
--- IsGathered hs w D T fs p Bs == the factors are such, the classes Bs are distinct, and T is at least the weight of p
+-- IsGathered hs w D T fs p Bs == p has a degree of at most D, the factors are such, the classes Bs are distinct, and T is at least
+--                          the weight of p
 -- GatheredRecurrence    == degree times the coefficient of the product is the sum over the classes
 -- GatheredSizes         == the sizes of all terms add up to at most degree times the product without signs
 use Rattle.std.specs.Prelude.{◌≡◌, ◌⊎◌, Contains, ℕ, suc, ℤ, pos, ◌+ℤ◌, ◌*ℤ◌, ◌≤ℤ◌, ◌<ℤ◌, List, map}

@@ -17,10 +17,11 @@
 -- log_term hs D is v n B m == the product of the coefficients of q^(n-m) in P_(v-B) and of q^m in L_B
 -- log_sum hs w D T is v n B == the coefficient of q^n in P_(v-B) L_B: the sum over T + 1 exponents of L_B from the lowest on
 -- HasMultiples hs v Bs D i == the multiples of the integer's class that have at most the degree of v are among the classes Bs
--- IsRecurrence hs w D T is v n Bs == the classes Bs are distinct and have those multiples, for a class v of degree at most D,
---                       and T is at least the weight of v at n
+-- IsRecurrence hs w D T is v n Bs == the genera are within the slope w, the classes Bs are distinct and have those multiples,
+--                       all with an entry for each height, for a class v of degree at most D, and T is at least the weight of
+--                       v at n
 -- KatzRecurrence     == the recurrence at q^n Q^v, over such classes
--- KatzDivision       == so from degree 1 on the sum divided by the degree is the coefficient, and no other number is
+-- KatzDivision       == so from degree 1 on a number that times the degree is that sum is the coefficient
 use Rattle.std.specs.Prelude.{◌≡◌, Contains, ℕ, zero, suc, ◌+◌, ◌*◌, ◌<◌, ℤ, pos, neg_ℤ, ◌+ℤ◌, ◌-ℤ◌, ◌*ℤ◌, ◌≤ℤ◌, unsigned_abs, List, length, Bool, if◌then◌else◌}
 use Rattle.std.specs.List.{AllByRecursion, IsDistinct}
 use Rattle.std.specs.Ordering.{int_eq}

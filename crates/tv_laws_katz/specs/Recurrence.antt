@@ -1,10 +1,10 @@
 -- The logarithmic recurrence of a product of powers of 1 - X, as laws. It gives the coefficients by rising degree.
 --
--- log_of D f P p  == degree * (- exponent) * (P (p - X) + P (p - 2 X) + .. + P (p - D X)), with X the place of the factor: what
+-- log_of D f P p  == degree * (- power) * (P (p - X) + P (p - 2 X) + .. + P (p - D X)), with X the place of the factor: what
 --                    the factor adds to degree times coefficient
 -- logs D fs P p   == the sum of that over the factors
 -- FactorRecurrence == degree times the coefficient of a product is that sum over its factors
--- FactorDivision  == so from degree 1 on the sum divided by the degree is the coefficient, and no other number is
+-- FactorDivision  == so from degree 1 on a number that times the degree is that sum is the coefficient
 use Rattle.std.specs.Prelude.{◌≡◌, ℕ, suc, ℤ, pos, neg_ℤ, ◌*ℤ◌, ◌≤ℤ◌, List}
 use Rattle.std.specs.List.{AllByRecursion}
 use Rattle.tv_lemmas.specs.Sums.{total}

@@ -1,13 +1,13 @@
 -- How large the terms of the recurrence are, as laws. The factors without sign bound them.
 --
--- log_size D f P p   == the sizes of the terms that the factor adds: |degree * exponent| * (|P (p - X)| + .. + |P (p - D X)|)
+-- log_size D f P p   == the sizes of the terms that the factor adds: |degree * power| * (|P (p - X)| + .. + |P (p - D X)|)
 -- log_sizes D fs P p == the sum of that over the factors
 -- SizeOfProduct == the size of a coefficient is at most that of the product without signs
 -- SizesOfTerms  == the sizes of all terms of the recurrence add up to at most degree times that
 -- AbsoluteIsProduct == Katz's product without signs is the one over the factors of genus 0 with j up to any J of at least
 --                   the weight
 -- SizeOfKatz    == it bounds the size of Katz's product
--- SizesOfKatzTerms == and degree times it the sizes of all terms of the recurrence together
+-- SizesOfFactorTerms == and degree times it the sizes of all terms of the recurrence together
 use Rattle.std.specs.Prelude.{◌≡◌, ℕ, suc, ◌*◌, ℤ, pos, ◌*ℤ◌, ◌≤ℤ◌, unsigned_abs, List, map}
 use Rattle.std.specs.List.{AllByRecursion}
 use Rattle.tv_ring.specs.Sums.{total_below}
@@ -42,8 +42,8 @@ abbrev pub SizeOfKatz : Type 0
 SizeOfKatz =
     (hs : List ℤ) (is : List Integer) (v : List ℤ) (n : ℤ) → pos (unsigned_abs (katz hs is v n)) ≤ℤ absolute_product hs is v n
 
-abbrev pub SizesOfKatzTerms : Type 0
-SizesOfKatzTerms =
+abbrev pub SizesOfFactorTerms : Type 0
+SizesOfFactorTerms =
     (hs : List ℤ) (w D J : ℕ) (is : List Integer) (v : List ℤ) (n : ℤ) → AllByRecursion (IsWithinSlope hs w) is →
     degree_of hs v ≤ℤ pos D → weight w (place hs v n) ≤ℤ pos J →
     pos (log_sizes D (factors hs J is) (product (factors hs J is)) (place hs v n)) ≤ℤ

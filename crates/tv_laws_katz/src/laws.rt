@@ -1,10 +1,11 @@
-//! Laws of Katz's product over integers: each function does nothing, and its contract is a law.
+//! Laws of Katz's product over integers: each function does nothing, and its contract is a law. The classes of the integers have
+//! degrees of at least 1 by the heights.
 
 ghost use Rattle.tv_laws_katz.specs.Further.{NewInteger, Unchanged};
 ghost use Rattle.tv_laws_katz.specs.Gathered.{GatheredRecurrence, GatheredSizes};
 ghost use Rattle.tv_laws_katz.specs.Logarithm.{KatzRecurrence, KatzDivision};
 ghost use Rattle.tv_laws_katz.specs.Recurrence.{FactorRecurrence, FactorDivision};
-ghost use Rattle.tv_laws_katz.specs.Sizes.{SizeOfProduct, SizesOfTerms, AbsoluteIsProduct, SizeOfKatz, SizesOfKatzTerms};
+ghost use Rattle.tv_laws_katz.specs.Sizes.{SizeOfProduct, SizesOfTerms, AbsoluteIsProduct, SizeOfKatz, SizesOfFactorTerms};
 ghost use Rattle.tv_laws_katz.specs.Weights.{LargerFactors, KatzIsProduct, VanishesBySlope, UnitBelowOne, VanishesElsewhere};
 
 /// At its own class and the exponent 1 - genus a further integer adds exactly its value.
@@ -22,7 +23,7 @@ pub fn larger_factors()
     ensures { LargerFactors }
 {}
 
-/// Where no genus is above c * degree + 1, the factors of genus 0 up to the exponent and c times the degree are enough.
+/// Where no genus is above c * degree + 1, the factors of genus 0 with j up to the exponent plus c times the degree are enough.
 pub fn katz_is_product()
     ensures { KatzIsProduct }
 {}
@@ -47,7 +48,7 @@ pub fn factor_recurrence()
     ensures { FactorRecurrence }
 {}
 
-/// So the degree divides that sum, and the quotient is the coefficient.
+/// So from degree 1 on a number that times the degree is that sum is the coefficient.
 pub fn factor_division()
     ensures { FactorDivision }
 {}
@@ -73,8 +74,8 @@ pub fn size_of_katz()
 {}
 
 /// And degree times it bounds the sizes of all terms of the recurrence together.
-pub fn sizes_of_katz_terms()
-    ensures { SizesOfKatzTerms }
+pub fn sizes_of_factor_terms()
+    ensures { SizesOfFactorTerms }
 {}
 
 /// Class by class: degree times the series of a class is the sum of the products of the series of lower classes with the
@@ -83,7 +84,7 @@ pub fn katz_recurrence()
     ensures { KatzRecurrence }
 {}
 
-/// So the degree divides that sum, and the quotient is the coefficient.
+/// So from degree 1 on a number that times the degree is that sum is the coefficient.
 pub fn katz_division()
     ensures { KatzDivision }
 {}

@@ -14,8 +14,8 @@ pub fn extras_in_order()
     ensures { ExtrasInOrder }
 {}
 
-/// For of two sets of as many cells the one that comes before has a cell that the other lacks, and before that cell both
-/// have the same ones.
+/// Of two sets of as many cells one comes before the other exactly where it has a cell that the other lacks, and before that
+/// cell both have the same ones.
 pub fn sets_by_least_cell()
     ensures { SetsByLeastCell }
 {}
@@ -26,7 +26,7 @@ pub fn assignments_in_order()
     ensures { AssignmentsInOrder }
 {}
 
-/// So do the assignments of a class.
+/// So are the assignments of a class.
 pub fn assignments_of_class_in_order()
     ensures { AssignmentsOfInOrder }
 {}
