@@ -1,0 +1,6 @@
+mod Values
+pub mod Flipped
+pub mod Passing
+pub mod Carried
+pub mod Exchanges
+pub mod Images
