@@ -88,11 +88,11 @@ module _ (f : Cell → Cell) (legs other : Legs) (carries : Carries f legs other
       ap (λ n. (n - 1) + sum_of (λ d. legs_at other d - 1) (map f cells)) (carries.many c)
       ∙ ap (λ n. (legs_at legs c - 1) + n) (overlaps-map cells)
 
+  overlaps-carried : (n : ℕ) → sum_of (λ c. legs_at other c - 1) (cube n) ≡ sum_of (λ c. legs_at legs c - 1) (cube n)
+  overlaps-carried n =
+      permuted-sum_of (λ c. legs_at other c - 1) same cells-equality (cube n) (map f (cube n)) (cube-carried n)
+      ∙ overlaps-map (cube n)
+
   pub overlap-carried : overlap_cost other ≡ overlap_cost legs
   unfolding overlap_cost overlaps
-  overlap-carried =
-      ap (λ n. sum_of (λ c. legs_at other c - 1) (cube n)) carries.far
-      ∙ (at_cube (cube (extent legs)) (map f (cube (extent legs))) (cube-carried (extent legs)) ∙ overlaps-map (cube (extent legs)))
-    where
-      at_cube : (xs ys : List Cell) → Permuted same xs ys → sum_of (λ c. legs_at other c - 1) xs ≡ sum_of (λ c. legs_at other c - 1) ys
-      at_cube = permuted-sum_of (λ c. legs_at other c - 1) same cells-equality
+  overlap-carried = ap (λ n. sum_of (λ c. legs_at other c - 1) (cube n)) carries.far ∙ overlaps-carried (extent legs)

@@ -51,26 +51,35 @@ list_any-same p q alike (c ∷ cells) =
     ap (λ b. b || list_any p cells) (alike c) ∙ ap (λ b. q c || b) (list_any-same p q alike cells)
 
 -- what is carried is in the union exactly if it was before
-module _ (f : Cell → Cell) (legs other : Legs) (keeps : (c d : Cell) → same (f c) (f d) ≡ same c d) (many : (c : Cell) → legs_at other (f c) ≡ legs_at legs c) where
-  among-carried : (s : List Cell) (c : Cell) → list_any (same (f c)) (map f s) ≡ list_any (same c) s
-  among-carried s c = list_any-map (same (f c)) f s ∙ list_any-same (λ d. same (f c) (f d)) (same c) (keeps c) s
+module _
+    (f : Cell → Cell)
+    (legs other : Legs)
+    (keeps : (c d : Cell) → same (f c) (f d) ≡ same c d)
+    (many : (c : Cell) → legs_at other (f c) ≡ legs_at legs c)
+  where
+    among-carried : (s : List Cell) (c : Cell) → list_any (same (f c)) (map f s) ≡ list_any (same c) s
+    among-carried s c = list_any-map (same (f c)) f s ∙ list_any-same (λ d. same (f c) (f d)) (same c) (keeps c) s
 
-  step-carried : (s : List Cell) (n : ℕ) (c : Cell) → step other (map f s) n (f c) ≡ step legs s n c
-  step-carried s n c =
-      ap (λ m. nat_eq n 0 || (nat_lt 0 m || list_any (same (f c)) (map f s))) (many c)
-      ∙ ap (λ b. nat_eq n 0 || (nat_lt 0 (legs_at legs c) || b)) (among-carried s c)
+    step-carried : (s : List Cell) (n : ℕ) (c : Cell) → step other (map f s) n (f c) ≡ step legs s n c
+    step-carried s n c =
+        ap (λ m. nat_eq n 0 || (nat_lt 0 m || list_any (same (f c)) (map f s))) (many c)
+        ∙ ap (λ b. nat_eq n 0 || (nat_lt 0 (legs_at legs c) || b)) (among-carried s c)
 
 module _ (legs : Legs) (d : AreDiagrams legs) where
   -- ---- x and y
 
   many_xy : (c : Cell) → legs_at (exchanged_xy legs) (swap_xy c) ≡ legs_at legs c
-  many_xy c = sums (bit (has legs.along_y c.x c.z)) (bit (has legs.along_x c.y c.z)) (ap bit (flipped-has legs.along_z d.along_z c.x c.y))
+  many_xy c =
+      sums (bit (has legs.along_y c.x c.z)) (bit (has legs.along_x c.y c.z))
+      (ap bit (flipped-has legs.along_z d.along_z c.x c.y))
     where
       sums : (a b : ℕ) {m n : ℕ} → m ≡ n → (a + b) + m ≡ (b + a) + n
       sums a b e = omega arith
 
   step_xy : (s : List Cell) (n : ℕ) (c : Cell) → step (exchanged_xy legs) (map swap_xy s) n (swap_xy c) ≡ step legs s n c
-  step_xy = step-carried swap_xy legs (exchanged_xy legs) (λ a b. and-turned (nat_eq a.y b.y) (nat_eq a.x b.x) (nat_eq a.z b.z)) many_xy
+  step_xy =
+      step-carried swap_xy legs (exchanged_xy legs)
+      (λ a b. and-turned (nat_eq a.y b.y) (nat_eq a.x b.x) (nat_eq a.z b.z)) many_xy
 
   standing_xy : (s : List Cell) (c : Cell) → stands (exchanged_xy legs) (map swap_xy s) (swap_xy c) ≡ stands legs s c
   standing_xy s c =
@@ -96,13 +105,17 @@ module _ (legs : Legs) (d : AreDiagrams legs) where
   -- ---- y and z
 
   many_yz : (c : Cell) → legs_at (exchanged_yz legs) (swap_yz c) ≡ legs_at legs c
-  many_yz c = sums (bit (has legs.along_z c.x c.y)) (bit (has legs.along_y c.x c.z)) (ap bit (flipped-has legs.along_x d.along_x c.y c.z))
+  many_yz c =
+      sums (bit (has legs.along_z c.x c.y)) (bit (has legs.along_y c.x c.z))
+      (ap bit (flipped-has legs.along_x d.along_x c.y c.z))
     where
       sums : (a b : ℕ) {m n : ℕ} → m ≡ n → (m + a) + b ≡ (n + b) + a
       sums a b e = omega arith
 
   step_yz : (s : List Cell) (n : ℕ) (c : Cell) → step (exchanged_yz legs) (map swap_yz s) n (swap_yz c) ≡ step legs s n c
-  step_yz = step-carried swap_yz legs (exchanged_yz legs) (λ a b. and-last_turned (nat_eq a.x b.x) (nat_eq a.z b.z) (nat_eq a.y b.y)) many_yz
+  step_yz =
+      step-carried swap_yz legs (exchanged_yz legs)
+      (λ a b. and-last_turned (nat_eq a.x b.x) (nat_eq a.z b.z) (nat_eq a.y b.y)) many_yz
 
   standing_yz : (s : List Cell) (c : Cell) → stands (exchanged_yz legs) (map swap_yz s) (swap_yz c) ≡ stands legs s c
   standing_yz s c =

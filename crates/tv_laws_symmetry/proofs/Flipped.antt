@@ -1,5 +1,5 @@
 -- Flipped diagrams: they reach as far, and flipped again they are the diagrams.
-use Rattle.std.specs.Prelude.{◌≡◌, ℕ, zero, suc, ◌<◌, max, List, [], ◌∷◌, length, slice_index}
+use Rattle.std.specs.Prelude.{◌≡◌, ℕ, zero, suc, ◌<◌, List, [], ◌∷◌, length, slice_index}
 use Rattle.std.proofs.Common.{refl, ap, ◌∙◌, arith}
 use Rattle.std.proofs.lemmas.Bool.Decides.{nat_tests}
 use Rattle.tv_partition.specs.Rows.{FallsFrom, IsDiagram, reach, longer, column, columns, flipped}
@@ -28,10 +28,10 @@ first-row [] d = refl
 first-row (row ∷ rows) d = first-column (row ∷ rows) row d.0 ∙ column-first row (row ∷ rows) (diagram-falls (row ∷ rows) d)
 
 pub reach-flipped : (rows : List ℕ) → IsDiagram rows → reach (flipped rows) ≡ reach rows
-reach-flipped rows d = exchanged (length (flipped rows)) (slice_index (flipped rows) 0) (length rows) (slice_index rows 0) (length-columns rows 0 (slice_index rows 0)) (first-row rows d)
-  where
-    exchanged : (a b c e : ℕ) → a ≡ e → b ≡ c → max a b ≡ max c e
-    exchanged a b c e p q = omega arith
+reach-flipped rows d =
+    let long = length-columns rows 0 (slice_index rows 0) in
+    let wide = first-row rows d in
+    omega arith
 
 pub flipped-twice : (rows : List ℕ) → IsDiagram rows → flipped (flipped rows) ≡ rows
 flipped-twice rows d =

@@ -2,14 +2,15 @@
 --
 -- passing p cells == the number of sublists of the cells that pass
 -- IsOfCells p     == the test is the same on permuted lists
-use Rattle.std.specs.Prelude.{◌≡◌, ℕ, ◌+◌, Bool, true, false, cond, ◌&&◌, ◌||◌, List, [], ◌∷◌, map, filter, length, nat_eq, nat_lt, ◌-◌}
+use Rattle.std.specs.Prelude.{◌≡◌, ℕ, ◌+◌, ◌-◌, Bool, true, false, cond, ◌&&◌, ◌||◌, nat_eq, nat_lt}
+use Rattle.std.specs.Prelude.{List, [], ◌∷◌, map, filter, length}
 use Rattle.std.specs.List.{list_any, list_all}
 use Rattle.std.proofs.Common.{refl, sym, ap, ◌∙◌, arith, length-append}
 use Rattle.std.proofs.lemmas.List.{length-map}
 use Rattle.std.proofs.lemmas.List.Elements.{filter-append}
 use Rattle.std.proofs.lemmas.List.Sorted.{list_any-IsPermutation}
 use Rattle.tv_lemmas.proofs.Lists.{filter-map}
-use Rattle.tv_lemmas.proofs.Permuted.{Permuted, IsEquality, places, permuted, permuted-permutation, permuted-length}
+use Rattle.tv_lemmas.proofs.Permuted.{Permuted, IsEquality, IsOfMembers, places, permuted, permuted-permutation, permuted-length}
 use Rattle.tv_cells.specs.declared.cell.Cell.{Cell}
 use Rattle.tv_cells.specs.declared.legs.Legs.{Legs}
 use Rattle.tv_cells.specs.Cells.{cell, same, cube, sublists}
@@ -28,7 +29,8 @@ length-one : (s : List Cell) (b : Bool) → length (cond b (s ∷ []) []) ≡ bi
 length-one s true = refl
 length-one s false = refl
 
-length-begun : (p : List Cell → Bool) (c : Cell) (ss : List (List Cell)) → length (filter p (map (λ s. c ∷ s) ss)) ≡ length (filter (λ s. p (c ∷ s)) ss)
+length-begun : (p : List Cell → Bool) (c : Cell) (ss : List (List Cell)) →
+    length (filter p (map (λ s. c ∷ s) ss)) ≡ length (filter (λ s. p (c ∷ s)) ss)
 length-begun p c ss =
     ap length (filter-map p (λ s. p (c ∷ s)) (λ s. c ∷ s) (λ s. refl) ss) ∙ length-map (filter (λ s. p (c ∷ s)) ss) (λ s. c ∷ s)
 
@@ -48,17 +50,20 @@ are_extras legs i s = is_extras legs s && nat_eq (length s) i
 pub count-passing : (legs : Legs) (i : ℕ) → count legs i ≡ passing (are_extras legs i) (cube (i + extent legs))
 unfolding count
 count-passing legs i =
-    ap length (sym (extras_by_length legs i (cube (i + extent legs)))) ∙ length-passing (are_extras legs i) (cube (i + extent legs))
+    ap length (sym (extras_by_length legs i (cube (i + extent legs))))
+    ∙ length-passing (are_extras legs i) (cube (i + extent legs))
 
 -- ---- other tests and other cells
 
-pub passing-same : (p q : List Cell → Bool) → ((s : List Cell) → p s ≡ q s) → (cells : List Cell) → passing p cells ≡ passing q cells
+pub passing-same : (p q : List Cell → Bool) → ((s : List Cell) → p s ≡ q s) → (cells : List Cell) →
+    passing p cells ≡ passing q cells
 passing-same p q alike [] = ap bit (alike [])
 passing-same p q alike (c ∷ cells) =
     let first = passing-same (λ s. p (c ∷ s)) (λ s. q (c ∷ s)) (λ s. alike (c ∷ s)) cells in
     let rest = passing-same p q alike cells in omega arith
 
-pub passing-map : (p : List Cell → Bool) (f : Cell → Cell) (cells : List Cell) → passing p (map f cells) ≡ passing (λ s. p (map f s)) cells
+pub passing-map : (p : List Cell → Bool) (f : Cell → Cell) (cells : List Cell) →
+    passing p (map f cells) ≡ passing (λ s. p (map f s)) cells
 passing-map p f [] = refl
 passing-map p f (c ∷ cells) =
     let first = passing-map (λ s. p (f c ∷ s)) f cells in
@@ -94,13 +99,21 @@ counted-later c xs ys e p of =
 
 counted-turned : (c d : Cell) (xs : List Cell) → Counted (c ∷ d ∷ xs) (d ∷ c ∷ xs)
 counted-turned c d xs p of =
-    let both = passing-same (λ s. p (c ∷ d ∷ s)) (λ s. p (d ∷ c ∷ s)) (λ s. of.each (c ∷ d ∷ s) (d ∷ c ∷ s) (permuted-turned c d s)) xs in
+    let alike : (s : List Cell) → p (c ∷ d ∷ s) ≡ p (d ∷ c ∷ s) = λ s. of.each (c ∷ d ∷ s) (d ∷ c ∷ s) (permuted-turned c d s) in
+    let both = passing-same (λ s. p (c ∷ d ∷ s)) (λ s. p (d ∷ c ∷ s)) alike xs in
     omega arith
 
-pub passing-permuted : (p : List Cell → Bool) → IsOfCells p → (xs ys : List Cell) → Permuted same xs ys → passing p xs ≡ passing p ys
-passing-permuted p of xs ys is =
-    permuted same cells-equality Counted
-    (record { none = λ q o. refl; later = counted-later; turned = counted-turned; through = λ us vs ws e g. λ q o. e q o ∙ g q o }) xs ys is p of
+counted-members : IsOfMembers Counted
+counted-members = record {
+  none = λ p of. refl;
+  later = counted-later;
+  turned = counted-turned;
+  through = λ us vs ws e g. λ p of. e p of ∙ g p of;
+}
+
+pub passing-permuted : (p : List Cell → Bool) → IsOfCells p → (xs ys : List Cell) → Permuted same xs ys →
+    passing p xs ≡ passing p ys
+passing-permuted p of xs ys is = permuted same cells-equality Counted counted-members xs ys is p of
 
 -- ---- the test of extras is of cells
 
@@ -113,13 +126,20 @@ and-turned false true c = refl
 and-turned false false c = refl
 
 list_all-permuted : (p : Cell → Bool) (xs ys : List Cell) → Permuted same xs ys → list_all p xs ≡ list_all p ys
-list_all-permuted p xs ys is =
-    permuted same cells-equality (λ us vs. list_all p us ≡ list_all p vs)
-    (record { none = refl; later = λ x us vs e. ap (λ b. p x && b) e; turned = λ x y us. and-turned (p x) (p y) (list_all p us); through = λ us vs ws e g. e ∙ g }) xs ys is
+list_all-permuted p xs ys is = permuted same cells-equality (λ us vs. list_all p us ≡ list_all p vs) members xs ys is
+  where
+    members : IsOfMembers (λ us vs. list_all p us ≡ list_all p vs)
+    members = record {
+      none = refl;
+      later = λ x us vs e. ap (λ b. p x && b) e;
+      turned = λ x y us. and-turned (p x) (p y) (list_all p us);
+      through = λ us vs ws e g. e ∙ g;
+    }
 
 pub list_all-same : (p q : Cell → Bool) → ((c : Cell) → p c ≡ q c) → (cells : List Cell) → list_all p cells ≡ list_all q cells
 list_all-same p q alike [] = refl
-list_all-same p q alike (c ∷ cells) = ap (λ b. b && list_all p cells) (alike c) ∙ ap (λ b. q c && b) (list_all-same p q alike cells)
+list_all-same p q alike (c ∷ cells) =
+    ap (λ b. b && list_all p cells) (alike c) ∙ ap (λ b. q c && b) (list_all-same p q alike cells)
 
 in_union-permuted : (legs : Legs) (xs ys : List Cell) → Permuted same xs ys → (c : Cell) → in_union legs xs c ≡ in_union legs ys c
 in_union-permuted legs xs ys is c = ap (λ b. nat_lt 0 (legs_at legs c) || b) (list_any-permuted (same c) xs ys is)
@@ -131,11 +151,19 @@ stands-permuted legs xs ys is c =
     (in_union-permuted legs xs ys is (cell c.x (c.y - 1) c.z))
     (in_union-permuted legs xs ys is (cell c.x c.y (c.z - 1)))
   where
-    alike : (a i j k x y z x' y' z' : Bool) → x ≡ x' → y ≡ y' → z ≡ z' → (a && ((i || x) && ((j || y) && (k || z)))) ≡ (a && ((i || x') && ((j || y') && (k || z'))))
+    alike : (a i j k x y z x' y' z' : Bool) → x ≡ x' → y ≡ y' → z ≡ z' →
+        (a && ((i || x) && ((j || y) && (k || z)))) ≡ (a && ((i || x') && ((j || y') && (k || z'))))
     alike a i j k x y z x' y' z' p q r = rw (p, q, r) refl
 
+is_extras-permuted : (legs : Legs) (xs ys : List Cell) → Permuted same xs ys → is_extras legs xs ≡ is_extras legs ys
+is_extras-permuted legs xs ys is =
+    list_all-permuted (stands legs xs) xs ys is
+    ∙ list_all-same (stands legs xs) (stands legs ys) (stands-permuted legs xs ys is) ys
+
 pub extras-of_cells : (legs : Legs) (i : ℕ) → IsOfCells (are_extras legs i)
-extras-of_cells legs i = record { each = λ xs ys is. ap (λ b. b && nat_eq (length xs) i) (extras xs ys is) ∙ ap (λ n. is_extras legs ys && nat_eq n i) (permuted-length same cells-equality xs ys is) }
+extras-of_cells legs i = record { each = each }
   where
-    extras : (xs ys : List Cell) → Permuted same xs ys → is_extras legs xs ≡ is_extras legs ys
-    extras xs ys is = list_all-permuted (stands legs xs) xs ys is ∙ list_all-same (stands legs xs) (stands legs ys) (stands-permuted legs xs ys is) ys
+    each : (xs ys : List Cell) → Permuted same xs ys → are_extras legs i xs ≡ are_extras legs i ys
+    each xs ys is =
+        ap (λ b. b && nat_eq (length xs) i) (is_extras-permuted legs xs ys is)
+        ∙ ap (λ n. is_extras legs ys && nat_eq n i) (permuted-length same cells-equality xs ys is)

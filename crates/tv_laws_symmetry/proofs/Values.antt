@@ -1,4 +1,5 @@
--- Worked values: no leg of the first corner is its own flip, and any other flip of one of its images is noticed.
+-- Worked values: no leg of the first corner is its own flip, and a leg that is flipped where it must not be, or not flipped
+-- where it must, makes another corner, with 3 sets of one box in place of 4 and a greater overlap cost.
 use Rattle.std.specs.Prelude.{◌≡◌, List, [], ◌∷◌, map, refl}
 use Rattle.tv_cells.specs.declared.legs.Legs.{Legs}
 use Rattle.tv_cells.specs.Cells.{cube, sublists_of}
@@ -25,7 +26,7 @@ six = refl
 a_turn : rotated corner ≡ exchanged_xy (exchanged_yz corner)
 a_turn = refl
 
-six_counts : map (λ legs. map (count legs) (0 ∷ 1 ∷ [])) (images corner) ≡ (1 ∷ 4 ∷ []) ∷ (1 ∷ 4 ∷ []) ∷ (1 ∷ 4 ∷ []) ∷ (1 ∷ 4 ∷ []) ∷ (1 ∷ 4 ∷ []) ∷ (1 ∷ 4 ∷ []) ∷ []
+six_counts : map (λ legs. count legs 1) (images corner) ≡ 4 ∷ 4 ∷ 4 ∷ 4 ∷ 4 ∷ 4 ∷ []
 unfolding count cube sublists_of
 six_counts = refl
 

@@ -1,6 +1,7 @@
 //! Laws of corners whose axes stand in another order: each function does nothing, and its contract is a law.
 
-ghost use Rattle.tv_laws_symmetry.specs.Symmetry.{ExchangedCount, RotatedCount, ImageCounts, ImageOverlaps, ImagesAreDiagrams, ImagesAreClosed};
+ghost use Rattle.tv_laws_symmetry.specs.Symmetry.{ExchangedCount, RotatedCount, ImageCounts, ImageOverlaps};
+ghost use Rattle.tv_laws_symmetry.specs.Symmetry.{ImagesAreDiagrams, ImagesAreClosed};
 
 /// An exchange of x and y, or of y and z, leaves the number of sets of extras.
 pub fn exchanged_count()
