@@ -1,17 +1,15 @@
 -- What both exchanges keep, the legs in each of the six orders of the axes have.
 --
 -- IsKept P == P is kept by an exchange of x and y, and by one of y and z
-use Rattle.std.specs.Prelude.{◌≡◌, Contains, ℕ, List}
+use Rattle.std.specs.Prelude.{◌≡◌, Contains, ℕ}
 use Rattle.std.specs.List.{AllByRecursion}
-use Rattle.std.proofs.Common.{refl, sym, ap, ◌∙◌, arith}
+use Rattle.std.proofs.Common.{refl, ◌∙◌}
 use Rattle.tv_lemmas.proofs.Members.{all-contains}
-use Rattle.tv_partition.specs.Rows.{flipped}
 use Rattle.tv_cells.specs.declared.legs.Legs.{Legs}
 use Rattle.tv_cells.specs.Extras.{AreDiagrams, count}
 use Rattle.tv_cells.specs.Costs.{overlap_cost}
-use Rattle.tv_laws_symmetry.specs.Symmetry.{legs_along, exchanged_xy, exchanged_yz, images}
-use Rattle.tv_laws_symmetry.specs.Symmetry.{RotatedCount, ImageCounts, ImageOverlaps, ImagesAreDiagrams, ImagesAreClosed}
-use Rattle.tv_laws_symmetry.proofs.Flipped.{flipped-twice}
+use Rattle.tv_laws_symmetry.specs.Symmetry.{exchanged_xy, exchanged_yz, images}
+use Rattle.tv_laws_symmetry.specs.Symmetry.{RotatedCount, ImageCounts, ImageOverlaps, ImagesAreDiagrams}
 use Rattle.tv_laws_symmetry.proofs.Exchanges.{diagrams_xy, diagrams_yz, exchanged_count, overlap_xy, overlap_yz}
 
 pub record IsKept (P : Legs → Type 0) : Type 0 where
@@ -58,66 +56,3 @@ image_overlaps legs image d among =
 
 pub images_are_diagrams : ImagesAreDiagrams
 images_are_diagrams legs image d among = an_image AreDiagrams diagrams-kept legs image d d among
-
--- ---- an exchange only changes the place among the six, where a leg that is flipped twice is the leg
-
-module _ (legs : Legs) (d : AreDiagrams legs) where
-  abbrev X : List ℕ
-  X = legs.along_x
-
-  abbrev Y : List ℕ
-  Y = legs.along_y
-
-  abbrev Z : List ℕ
-  Z = legs.along_z
-
-  twice_x : X ≡ flipped (flipped X)
-  twice_x = sym (flipped-twice X d.along_x)
-
-  twice_y : Y ≡ flipped (flipped Y)
-  twice_y = sym (flipped-twice Y d.along_y)
-
-  twice_z : Z ≡ flipped (flipped Z)
-  twice_z = sym (flipped-twice Z d.along_z)
-
-  closed_xy : AllByRecursion (λ image. Contains (images legs) (exchanged_xy image)) (images legs)
-  closed_xy = (
-    (1, omega arith, refl),
-    (
-      (0, omega arith, ap (legs_along X Y) twice_z),
-      (
-        (4, omega arith, refl),
-        (
-          (5, omega arith, ap (legs_along (flipped Y) (flipped Z)) twice_x),
-          (
-            (2, omega arith, ap (legs_along (flipped X) Z) twice_y),
-            ((3, omega arith, refl), tt),
-          ),
-        ),
-      ),
-    ),
-  )
-
-  closed_yz : AllByRecursion (λ image. Contains (images legs) (exchanged_yz image)) (images legs)
-  closed_yz = (
-    (2, omega arith, refl),
-    (
-      (5, omega arith, refl),
-      (
-        (0, omega arith, ap (λ rows. legs_along rows Y Z) twice_x),
-        (
-          (4, omega arith, ap (λ rows. legs_along rows (flipped X) (flipped Y)) twice_z),
-          (
-            (3, omega arith, refl),
-            ((1, omega arith, ap (λ rows. legs_along rows X (flipped Z)) twice_y), tt),
-          ),
-        ),
-      ),
-    ),
-  )
-
-pub images_are_closed : ImagesAreClosed
-images_are_closed = record {
-  xy = λ legs image d. all-contains (λ other. Contains (images legs) (exchanged_xy other)) (images legs) image (closed_xy legs d);
-  yz = λ legs image d. all-contains (λ other. Contains (images legs) (exchanged_yz other)) (images legs) image (closed_yz legs d);
-}

@@ -4,3 +4,4 @@ pub mod Passing
 pub mod Carried
 pub mod Exchanges
 pub mod Images
+pub mod Closed

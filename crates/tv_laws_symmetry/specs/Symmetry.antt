@@ -4,14 +4,16 @@
 -- exchanged_xy legs == the legs after an exchange of the axes x and y; that along z is flipped
 -- exchanged_yz legs == the legs after an exchange of the axes y and z; that along x is flipped
 -- rotated legs      == the legs after one turn of the axes: z to x, x to y, y to z
--- images legs       == the legs in each of the six orders of the axes
+-- six_of X Y Z      == these three legs in each of the six orders of the axes
+-- images legs       == the legs of a corner in each of them
 -- ExchangedCount    == legs of diagrams have as many sets of i extras after either exchange
 -- RotatedCount      == and after a turn
 -- ImageCounts       == and in each order of the axes
 -- ImageOverlaps     == so is their overlap cost the same
 -- ImagesAreDiagrams == the legs in each order are diagrams
--- ImagesAreClosed   == an exchange of two axes of one of the six gives one of the six
-use Rattle.std.specs.Prelude.{◌≡◌, Contains, ℕ, List, [], ◌∷◌}
+-- ImagesAreClosed   == either exchange, and a turn, takes each of the six to one of the six
+-- ImagesAreOneSet   == each of the six has the same six
+use Rattle.std.specs.Prelude.{◌≡◌, ◌↔◌, Contains, ℕ, List, [], ◌∷◌}
 use Rattle.tv_partition.specs.Rows.{flipped}
 use Rattle.tv_cells.specs.declared.legs.Legs.{Legs}
 use Rattle.tv_cells.specs.Extras.{AreDiagrams, count}
@@ -29,7 +31,7 @@ exchanged_yz legs = legs_along (flipped legs.along_x) legs.along_z legs.along_y
 abbrev pub rotated : Legs → Legs
 rotated legs = legs_along legs.along_z (flipped legs.along_x) (flipped legs.along_y)
 
--- by the signs: an order with one exchange flips one leg or all three, a turn two
+-- an exchange of two neighbours flips one leg, that of x and z all three, a turn two
 abbrev pub six_of : List ℕ → List ℕ → List ℕ → List Legs
 six_of X Y Z =
     legs_along X Y Z
@@ -62,3 +64,9 @@ ImagesAreDiagrams = (legs image : Legs) → AreDiagrams legs → Contains (image
 pub record ImagesAreClosed : Type 0 where
   pub xy : (legs image : Legs) → AreDiagrams legs → Contains (images legs) image → Contains (images legs) (exchanged_xy image)
   pub yz : (legs image : Legs) → AreDiagrams legs → Contains (images legs) image → Contains (images legs) (exchanged_yz image)
+  pub turn : (legs image : Legs) → AreDiagrams legs → Contains (images legs) image → Contains (images legs) (rotated image)
+
+abbrev pub ImagesAreOneSet : Type 0
+ImagesAreOneSet =
+    (legs image other : Legs) → AreDiagrams legs → Contains (images legs) image →
+    Contains (images image) other ↔ Contains (images legs) other

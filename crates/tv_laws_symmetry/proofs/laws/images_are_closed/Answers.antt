@@ -1,4 +1,4 @@
-use Rattle.tv_laws_symmetry.proofs.Images.{images_are_closed}
+use Rattle.tv_laws_symmetry.proofs.Closed.{images_are_closed}
 use Rattle.tv_laws_symmetry.proofs.laws.images_are_closed.Goals as goal
 
 pub returns : goal.returns
