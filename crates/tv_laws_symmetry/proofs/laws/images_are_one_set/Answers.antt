@@ -1,0 +1,5 @@
+use Rattle.tv_laws_symmetry.proofs.Closed.{images_are_one_set}
+use Rattle.tv_laws_symmetry.proofs.laws.images_are_one_set.Goals as goal
+
+pub returns : goal.returns
+returns c = images_are_one_set
