@@ -15,7 +15,7 @@ use Rattle.std.proofs.lemmas.Int.{ints}
 use Rattle.tv_lemmas.specs.Sums.{total}
 use Rattle.tv_lemmas.proofs.Members.{all-any, all-onto, all-both, all-append, all-front}
 use Rattle.tv_lemmas.proofs.Sums.{total-same, total-all}
-use Rattle.tv_laws_series.specs.Terms.{natural}
+use Rattle.tv_lemmas.specs.Naturals.{as_natural as natural}
 use Rattle.tv_spec_plane.specs.Web.{degree_of}
 use Rattle.tv_spec_boxes.specs.Assignments.{same_vector}
 use Rattle.tv_spec_boxes.proofs.Vectors.{same_vector-same, same_vector_tells}

@@ -15,7 +15,7 @@ use Rattle.std.proofs.lemmas.Int.{ints}
 use Rattle.std.proofs.lemmas.List.{map-append, map-id}
 use Rattle.tv_lemmas.proofs.Members.{all-onto, all-append, all-map, all-flat_map}
 use Rattle.tv_lemmas.proofs.Signs.{mul-nonneg-nonneg}
-use Rattle.tv_laws_series.specs.Terms.{natural}
+use Rattle.tv_lemmas.specs.Naturals.{as_natural as natural}
 use Rattle.tv_spec_plane.specs.Web.{degree_of}
 use Rattle.tv_spec_katz.specs.Binomials.{power_sign}
 use Rattle.tv_spec_katz.specs.Places.{Place, place, difference_by}

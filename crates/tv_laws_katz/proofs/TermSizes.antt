@@ -14,7 +14,7 @@ use Rattle.std.proofs.Common.{refl, arith, mul-le-mul, mul-le-mul_left}
 use Rattle.std.proofs.Math.IntN.{*ℤ-zero, neg_ℤ-neg_ℤ}
 use Rattle.std.proofs.lemmas.Int.{ints, unsigned_abs-mul}
 use Rattle.tv_ring.specs.Sums.{total_below}
-use Rattle.tv_laws_series.specs.Terms.{natural}
+use Rattle.tv_lemmas.specs.Naturals.{as_natural as natural}
 use Rattle.tv_lemmas.proofs.Members.{all-map, all-onto, all-flat_map}
 use Rattle.tv_spec_katz.specs.Binomials.{choose, power_sign, binomial, power_at, sum_below}
 use Rattle.tv_spec_katz.specs.Places.{Place, place, difference_by, unit, is_zero_class}

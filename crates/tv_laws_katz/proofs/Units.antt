@@ -11,7 +11,7 @@ use Rattle.std.proofs.Common.{refl, ap, arith, ◌∙◌, sym}
 use Rattle.std.proofs.Math.IntN.{*ℤ-zero}
 use Rattle.std.proofs.lemmas.Int.{ints}
 use Rattle.std.proofs.lemmas.Bool.Decides.{Decides-int_eq}
-use Rattle.tv_laws_series.specs.Terms.{natural}
+use Rattle.tv_lemmas.specs.Naturals.{as_natural as natural}
 use Rattle.tv_spec_katz.specs.Binomials.{power_at}
 use Rattle.tv_spec_katz.specs.Places.{Place, difference_by, is_zero_class, unit}
 use Rattle.tv_spec_katz.specs.Product.{Factor, times, product}
