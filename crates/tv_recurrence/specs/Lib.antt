@@ -1,0 +1,4 @@
+pub mod KatzParts
+pub mod Parts
+pub mod Products
+pub mod Rows
