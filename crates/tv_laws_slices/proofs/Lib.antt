@@ -1,0 +1,5 @@
+pub mod Sums
+pub mod Listed
+pub mod Bases
+pub mod Fits
+pub mod Once

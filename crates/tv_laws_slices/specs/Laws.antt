@@ -1,0 +1,25 @@
+-- What is true of slices and of paths of them, as laws.
+--
+-- same_shape a b == the two slices are one
+-- often s shapes == how many of the slices in the list are s
+-- SlicesOnce     == of legs that are diagrams, the lists of slices at t have exactly those that fit and have m extras, or
+--                   at most k extras, each once
+use Rattle.std.specs.Prelude.{◌≡◌, ℕ, ℤ, Bool, ◌&&◌, List, nat_eq, nat_le}
+use Rattle.std.specs.Cmp.Lexicographic.{pointwise}
+use Rattle.tv_lemmas.specs.Sums.{sum_of}
+use Rattle.tv_cells.specs.declared.legs.Legs.{Legs}
+use Rattle.tv_cells.specs.Extras.{bit, AreDiagrams}
+use Rattle.tv_spec_slices.specs.Slices.{Shape, fits, extras_of}
+use Rattle.tv_spec_slices.specs.Paths.{fitting_by, fitting}
+
+abbrev pub same_shape : Shape → Shape → Bool
+same_shape a b = nat_eq a.full b.full && pointwise nat_eq a.heights b.heights
+
+abbrev pub often : Shape → List Shape → ℕ
+often s shapes = sum_of (λ a. bit (same_shape s a)) shapes
+
+pub record SlicesOnce : Type 0 where
+  pub with_extras : (legs : Legs) (t : ℤ) (m : ℕ) (s : Shape) → AreDiagrams legs →
+      often s (fitting_by legs t m) ≡ bit (fits legs t s && nat_eq (extras_of legs t s) m)
+  pub in_all : (legs : Legs) (t : ℤ) (k : ℕ) (s : Shape) → AreDiagrams legs →
+      often s (fitting legs t k) ≡ bit (fits legs t s && nat_le (extras_of legs t s) k)
