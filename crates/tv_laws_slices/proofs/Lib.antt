@@ -3,3 +3,4 @@ pub mod Listed
 pub mod Bases
 pub mod Fits
 pub mod Once
+pub mod Steps

@@ -4,12 +4,13 @@
 -- often s shapes == how many of the slices in the list are s
 -- SlicesOnce     == of legs that are diagrams, the lists of slices at t have exactly those that fit and have m extras, or
 --                   at most k extras, each once
-use Rattle.std.specs.Prelude.{◌≡◌, ℕ, ℤ, Bool, ◌&&◌, List, nat_eq, nat_le}
+-- CompletionSteps == a slice takes no more extras above it than a neighbour above it that fits has and takes above it
+use Rattle.std.specs.Prelude.{◌≡◌, ℕ, ◌+◌, ◌≤◌, ℤ, pos, ◌+ℤ◌, Bool, true, ◌&&◌, List, nat_eq, nat_le}
 use Rattle.std.specs.Cmp.Lexicographic.{pointwise}
 use Rattle.tv_lemmas.specs.Sums.{sum_of}
 use Rattle.tv_cells.specs.declared.legs.Legs.{Legs}
 use Rattle.tv_cells.specs.Extras.{bit, AreDiagrams}
-use Rattle.tv_spec_slices.specs.Slices.{Shape, fits, extras_of}
+use Rattle.tv_spec_slices.specs.Slices.{Shape, interlaces, fits, extras_of, completion}
 use Rattle.tv_spec_slices.specs.Paths.{fitting_by, fitting}
 
 abbrev pub same_shape : Shape → Shape → Bool
@@ -23,3 +24,7 @@ pub record SlicesOnce : Type 0 where
       often s (fitting_by legs t m) ≡ bit (fits legs t s && nat_eq (extras_of legs t s) m)
   pub in_all : (legs : Legs) (t : ℤ) (k : ℕ) (s : Shape) → AreDiagrams legs →
       often s (fitting legs t k) ≡ bit (fits legs t s && nat_le (extras_of legs t s) k)
+
+abbrev pub CompletionSteps : Type 0
+CompletionSteps = (legs : Legs) (t : ℤ) (a b : Shape) → AreDiagrams legs → fits legs (t +ℤ pos 1) b ≡ true → interlaces t a b ≡ true →
+    completion legs t a ≤ extras_of legs (t +ℤ pos 1) b + completion legs (t +ℤ pos 1) b

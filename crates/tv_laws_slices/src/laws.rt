@@ -1,8 +1,13 @@
 //! Laws of slices: each function does nothing, and its contract is a law.
 
-ghost use Rattle.tv_laws_slices.specs.Laws.{SlicesOnce};
+ghost use Rattle.tv_laws_slices.specs.Laws.{SlicesOnce, CompletionSteps};
 
 /// The slices listed for a diagonal are exactly those that fit and have so many extras, each once.
 pub fn slices_once()
     ensures { SlicesOnce }
+{}
+
+/// A slice takes no more extras above it than a neighbour that fits, and what that one takes above it.
+pub fn completion_steps()
+    ensures { CompletionSteps }
 {}
