@@ -171,7 +171,7 @@ one-high true e q f h = absurd (cc)
 one-high false true q f h = absurd (cc)
 one-high false false q f h = h
 
-one-fits : (c e q : Bool) → e ≡ c → (c ≡ false → q ≡ true) → cond c e (not e && q) ≡ true
+pub one-fits : (c e q : Bool) → e ≡ c → (c ≡ false → q ≡ true) → cond c e (not e && q) ≡ true
 one-fits true true q f high = refl
 one-fits true false q f high = absurd (cc)
 one-fits false true q f high = absurd (cc)

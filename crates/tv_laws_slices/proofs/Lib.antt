@@ -4,3 +4,4 @@ pub mod Bases
 pub mod Fits
 pub mod Once
 pub mod Steps
+pub mod Least

@@ -189,10 +189,10 @@ one-step legs x m b a d e ends c = elim (or_cases (nat_lt d b.full) (nat_le a.fu
 ends-leg : (legs : Legs) (t : ℤ) (b : Shape) → AreDiagrams legs → fits legs t b ≡ true → (d : ℕ) → nat_lt d b.full ≡ true → is_endless legs t d ≡ true
 ends-leg legs t b are f d h = endless-first legs t d are ∙ (ap (nat_lt d) (sym (fits-full legs t b are f)) ∙ h)
 
-first-reach : (a b : ℕ) → a ≤ max a b
+pub first-reach : (a b : ℕ) → a ≤ max a b
 first-reach a b = omega arith
 
-second-reach : (a b : ℕ) → b ≤ max a b
+pub second-reach : (a b : ℕ) → b ≤ max a b
 second-reach a b = omega arith
 
 pub completion-step : (legs : Legs) (t : ℤ) (a b : Shape) → AreDiagrams legs → fits legs (t +ℤ pos 1) b ≡ true → interlaces t a b ≡ true →

@@ -5,6 +5,8 @@
 -- SlicesOnce     == of legs that are diagrams, the lists of slices at t have exactly those that fit and have m extras, or
 --                   at most k extras, each once
 -- CompletionSteps == a slice takes no more extras above it than a neighbour above it that fits has and takes above it
+-- HasLeastNext legs t a == a neighbour above a that fits has so many extras and takes so many above it as a does
+-- LeastCompletes  == each slice that fits has one
 use Rattle.std.specs.Prelude.{◌≡◌, ℕ, ◌+◌, ◌≤◌, ℤ, pos, ◌+ℤ◌, Bool, true, ◌&&◌, List, nat_eq, nat_le}
 use Rattle.std.specs.Cmp.Lexicographic.{pointwise}
 use Rattle.tv_lemmas.specs.Sums.{sum_of}
@@ -28,3 +30,12 @@ pub record SlicesOnce : Type 0 where
 abbrev pub CompletionSteps : Type 0
 CompletionSteps = (legs : Legs) (t : ℤ) (a b : Shape) → AreDiagrams legs → fits legs (t +ℤ pos 1) b ≡ true → interlaces t a b ≡ true →
     completion legs t a ≤ extras_of legs (t +ℤ pos 1) b + completion legs (t +ℤ pos 1) b
+
+pub record HasLeastNext (legs : Legs) (t : ℤ) (a : Shape) : Type 0 where
+  pub next : Shape
+  pub suits : fits legs (t +ℤ pos 1) next ≡ true
+  pub beside : interlaces t a next ≡ true
+  pub completes : extras_of legs (t +ℤ pos 1) next + completion legs (t +ℤ pos 1) next ≡ completion legs t a
+
+abbrev pub LeastCompletes : Type 0
+LeastCompletes = (legs : Legs) (t : ℤ) (a : Shape) → AreDiagrams legs → fits legs t a ≡ true → HasLeastNext legs t a

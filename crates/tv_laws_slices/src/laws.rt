@@ -1,6 +1,6 @@
 //! Laws of slices: each function does nothing, and its contract is a law.
 
-ghost use Rattle.tv_laws_slices.specs.Laws.{SlicesOnce, CompletionSteps};
+ghost use Rattle.tv_laws_slices.specs.Laws.{SlicesOnce, CompletionSteps, LeastCompletes};
 
 /// The slices listed for a diagonal are exactly those that fit and have so many extras, each once.
 pub fn slices_once()
@@ -10,4 +10,9 @@ pub fn slices_once()
 /// A slice takes no more extras above it than a neighbour that fits, and what that one takes above it.
 pub fn completion_steps()
     ensures { CompletionSteps }
+{}
+
+/// And each slice that fits has a neighbour above it that fits, with which it takes exactly so many: the least.
+pub fn least_completes()
+    ensures { LeastCompletes }
 {}
