@@ -46,10 +46,10 @@ row-none rows n d k l m = row-past rows (d + k) (far (length rows) (slice_index 
 first-max : (a b c : ℕ) → a ≤ max a (max b c)
 first-max a b c = omega arith
 
-second-max : (a b c : ℕ) → b ≤ max a (max b c)
+pub second-max : (a b c : ℕ) → b ≤ max a (max b c)
 second-max a b c = omega arith
 
-third-max : (a b c : ℕ) → c ≤ max a (max b c)
+pub third-max : (a b c : ℕ) → c ≤ max a (max b c)
 third-max a b c = omega arith
 
 pub base-past : (legs : Legs) (t : ℤ) (d : ℕ) → extent legs ≤ d → base_at legs t d ≡ 0

@@ -160,7 +160,7 @@ base-ahead legs (negsuc n) d are =
     (base-same legs _ _ _ _ (x-neg n (suc d) ∙ next_plus d 0) (y-neg n (suc d) ∙ (next_plus d n ∙ sym (plus_next d n)))) (base-row legs (d + 0) (d + suc n) are)
 
 -- over earlier y the legs are no lower
-row-earlier : (rows : List ℕ) → IsDiagram rows → (y m : ℕ) → y ≤ m → slice_index rows m ≤ slice_index rows y
+pub row-earlier : (rows : List ℕ) → IsDiagram rows → (y m : ℕ) → y ≤ m → slice_index rows m ≤ slice_index rows y
 row-earlier rows is y m l = let e : y + (m - y) ≡ m = omega arith in rw (← e) (falls-far (slice_index rows) (λ i. rows-descend rows i is) y (m - y))
 
 base-earlier : (legs : Legs) (x y m : ℕ) → AreDiagrams legs → y ≤ m → base legs x m ≤ base legs x y

@@ -5,3 +5,5 @@ pub mod Fits
 pub mod Once
 pub mod Steps
 pub mod Least
+pub mod Pushed
+pub mod Climb

@@ -7,13 +7,17 @@
 -- CompletionSteps == a slice takes no more extras above it than a neighbour above it that fits has and takes above it
 -- HasLeastNext legs t a == a neighbour above a that fits has so many extras and takes so many above it as a does
 -- LeastCompletes  == each slice that fits has one
-use Rattle.std.specs.Prelude.{◌≡◌, ℕ, ◌+◌, ◌≤◌, ℤ, pos, ◌+ℤ◌, Bool, true, ◌&&◌, List, nat_eq, nat_le}
+-- pushed legs k t b c == the entries at t, each pushed to its neighbours at t + 1 that have at most the extras that are left:
+--                   the sum of the ways of those that come to b with c extras
+-- EntriesPush     == from the first diagonal on this is the number of ways to b, where c and the completion are at most k
+-- EntriesAreBounded == an entry has no more ways than there are paths with as many extras as its cost and its completion
+use Rattle.std.specs.Prelude.{◌≡◌, ℕ, ◌+◌, ◌-◌, ◌≤◌, ℤ, pos, neg_ℤ, ◌≤ℤ◌, ◌+ℤ◌, Bool, true, cond, ◌&&◌, List, nat_eq, nat_le}
 use Rattle.std.specs.Cmp.Lexicographic.{pointwise}
 use Rattle.tv_lemmas.specs.Sums.{sum_of}
 use Rattle.tv_cells.specs.declared.legs.Legs.{Legs}
-use Rattle.tv_cells.specs.Extras.{bit, AreDiagrams}
+use Rattle.tv_cells.specs.Extras.{bit, extent, AreDiagrams}
 use Rattle.tv_spec_slices.specs.Slices.{Shape, interlaces, fits, extras_of, completion}
-use Rattle.tv_spec_slices.specs.Paths.{fitting_by, fitting}
+use Rattle.tv_spec_slices.specs.Paths.{fitting_by, fitting, next_of, ways_at, is_entry, entries, paths}
 
 abbrev pub same_shape : Shape → Shape → Bool
 same_shape a b = nat_eq a.full b.full && pointwise nat_eq a.heights b.heights
@@ -39,3 +43,18 @@ pub record HasLeastNext (legs : Legs) (t : ℤ) (a : Shape) : Type 0 where
 
 abbrev pub LeastCompletes : Type 0
 LeastCompletes = (legs : Legs) (t : ℤ) (a : Shape) → AreDiagrams legs → fits legs t a ≡ true → HasLeastNext legs t a
+
+abbrev pub pushed : Legs → ℕ → ℤ → Shape → ℕ → ℕ
+pushed legs k t b c =
+    sum_of (λ entry. sum_of (λ d. cond (same_shape b d && nat_eq (entry.1 + extras_of legs (t +ℤ pos 1) d) c) (ways_at legs k t entry.0 entry.1) 0)
+    (next_of legs t entry.0 (k - entry.1))) (entries legs k t)
+
+abbrev pub EntriesPush : Type 0
+EntriesPush =
+    (legs : Legs) (k : ℕ) (t : ℤ) (b : Shape) (c : ℕ) → AreDiagrams legs → neg_ℤ (pos (k + extent legs)) ≤ℤ t → fits legs (t +ℤ pos 1) b ≡ true →
+    c + completion legs (t +ℤ pos 1) b ≤ k → pushed legs k t b c ≡ ways_at legs k (t +ℤ pos 1) b c
+
+abbrev pub EntriesAreBounded : Type 0
+EntriesAreBounded =
+    (legs : Legs) (k : ℕ) (t : ℤ) (s : Shape) (c : ℕ) → AreDiagrams legs → neg_ℤ (pos (k + extent legs)) ≤ℤ t → t ≤ℤ pos (k + extent legs) →
+    is_entry legs k t s c ≡ true → ways_at legs k t s c ≤ paths legs k (c + completion legs t s)

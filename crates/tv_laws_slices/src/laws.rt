@@ -1,6 +1,6 @@
 //! Laws of slices: each function does nothing, and its contract is a law.
 
-ghost use Rattle.tv_laws_slices.specs.Laws.{SlicesOnce, CompletionSteps, LeastCompletes};
+ghost use Rattle.tv_laws_slices.specs.Laws.{SlicesOnce, CompletionSteps, LeastCompletes, EntriesPush, EntriesAreBounded};
 
 /// The slices listed for a diagonal are exactly those that fit and have so many extras, each once.
 pub fn slices_once()
@@ -15,4 +15,14 @@ pub fn completion_steps()
 /// And each slice that fits has a neighbour above it that fits, with which it takes exactly so many: the least.
 pub fn least_completes()
     ensures { LeastCompletes }
+{}
+
+/// The entries of a diagonal, each pushed to its neighbours above, give the ways to the slices of the next one.
+pub fn entries_push()
+    ensures { EntriesPush }
+{}
+
+/// An entry has no more ways than there are paths with as many extras as its cost and its completion.
+pub fn entries_are_bounded()
+    ensures { EntriesAreBounded }
 {}
