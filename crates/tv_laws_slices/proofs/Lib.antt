@@ -7,3 +7,4 @@ pub mod Steps
 pub mod Least
 pub mod Pushed
 pub mod Climb
+pub mod Chains

@@ -82,7 +82,7 @@ own-heights : (hs : List ℕ) → pointwise nat_eq hs hs ≡ true
 own-heights [] = refl
 own-heights (h ∷ hs) = and_from (nat_eq h h) (pointwise nat_eq hs hs) (eq-eqb h h refl) (own-heights hs)
 
-own-shape : (s : Shape) → same_shape s s ≡ true
+pub own-shape : (s : Shape) → same_shape s s ≡ true
 own-shape s = and_from (nat_eq s.full s.full) (pointwise nat_eq s.heights s.heights) (eq-eqb s.full s.full refl) (own-heights s.heights)
 
 single-none : (b : Shape) (v : Shape → ℕ) (xs : List Shape) → often b xs ≡ 0 → sum_of (λ d. cond (same_shape b d) (v d) 0) xs ≡ 0
@@ -105,7 +105,7 @@ pub single : (b : Shape) (v : Shape → ℕ) (xs : List Shape) (q : Bool) → of
 single b v xs true e = single-one b v xs e
 single b v xs false e = single-none b v xs e
 
-listed-often : (a : Shape) (xs : List Shape) → list_any (same_shape a) xs ≡ true → often a xs ≡ 0 → ⊥
+pub listed-often : (a : Shape) (xs : List Shape) → list_any (same_shape a) xs ≡ true → often a xs ≡ 0 → ⊥
 listed-often a [] h e = cc
 listed-often a (x ∷ xs) h e = by_test (same_shape a x) h e (listed-often a xs)
   where

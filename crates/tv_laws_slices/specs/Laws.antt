@@ -10,14 +10,20 @@
 -- pushed legs k t b c == the entries at t, each pushed to its neighbours at t + 1 that have at most the extras that are left:
 --                   the sum of the ways of those that come to b with c extras
 -- EntriesPush     == from the first diagonal on this is the number of ways to b, where c and the completion are at most k
+-- IsChain legs first slices c == slices of the diagonals from first on, the one above all first: each fits, neighbours
+--                   interlace, that at the diagonal first is the legs alone, and they have c extras in all
+-- IsPath legs far i slices == a chain from the diagonal -far to far with i extras, the one above all the legs alone too
+-- AreAll P lists  == exactly the lists of slices that are so, each once
+-- PathsAreChains  == the number of paths is that of a list of all paths, for i at most k
 -- EntriesAreBounded == an entry has no more ways than there are paths with as many extras as its cost and its completion
-use Rattle.std.specs.Prelude.{◌≡◌, ℕ, ◌+◌, ◌-◌, ◌≤◌, ℤ, pos, neg_ℤ, ◌≤ℤ◌, ◌+ℤ◌, Bool, true, cond, ◌&&◌, List, nat_eq, nat_le}
+use Rattle.std.specs.Prelude.{◌≡◌, ℕ, suc, ◌+◌, ◌-◌, ◌*◌, ◌≤◌, ℤ, pos, neg_ℤ, ◌≤ℤ◌, ◌+ℤ◌, Bool, true, cond, ◌&&◌, ◌↔◌, Contains, List, [], ◌∷◌, length, nat_eq, nat_le}
+use Rattle.std.specs.List.{IsDistinct}
 use Rattle.std.specs.Cmp.Lexicographic.{pointwise}
 use Rattle.tv_lemmas.specs.Sums.{sum_of}
 use Rattle.tv_cells.specs.declared.legs.Legs.{Legs}
 use Rattle.tv_cells.specs.Extras.{bit, extent, AreDiagrams}
 use Rattle.tv_spec_slices.specs.Slices.{Shape, interlaces, fits, extras_of, completion}
-use Rattle.tv_spec_slices.specs.Paths.{fitting_by, fitting, next_of, ways_at, is_entry, entries, paths}
+use Rattle.tv_spec_slices.specs.Paths.{fitting_by, fitting, diagonal_at, next_of, ways_at, is_entry, entries, paths}
 
 abbrev pub same_shape : Shape → Shape → Bool
 same_shape a b = nat_eq a.full b.full && pointwise nat_eq a.heights b.heights
@@ -58,3 +64,26 @@ abbrev pub EntriesAreBounded : Type 0
 EntriesAreBounded =
     (legs : Legs) (k : ℕ) (t : ℤ) (s : Shape) (c : ℕ) → AreDiagrams legs → neg_ℤ (pos (k + extent legs)) ≤ℤ t → t ≤ℤ pos (k + extent legs) →
     is_entry legs k t s c ≡ true → ways_at legs k t s c ≤ paths legs k (c + completion legs t s)
+
+abbrev pub IsChain : Legs → ℤ → List Shape → ℕ → Type 0
+IsChain legs first [] c = ⊥
+IsChain legs first (s ∷ []) c = (fits legs first s ≡ true) × (extras_of legs first s ≡ 0) × (c ≡ 0)
+IsChain legs first (s ∷ a ∷ slices) c =
+    (fits legs (diagonal_at first (suc (length slices))) s ≡ true)
+    × (interlaces (diagonal_at first (length slices)) a s ≡ true)
+    × (extras_of legs (diagonal_at first (suc (length slices))) s ≤ c)
+    × IsChain legs first (a ∷ slices) (c - extras_of legs (diagonal_at first (suc (length slices))) s)
+
+abbrev pub IsPath : Legs → ℕ → ℕ → List Shape → Type 0
+IsPath legs far i [] = ⊥
+IsPath legs far i (s ∷ slices) =
+    (length slices ≡ 2 * far) × (extras_of legs (pos far) s ≡ 0) × IsChain legs (neg_ℤ (pos far)) (s ∷ slices) i
+
+pub record AreAll (P : List Shape → Type 0) (lists : List (List Shape)) : Type 0 where
+  pub each : (slices : List Shape) → Contains lists slices ↔ P slices
+  pub once : IsDistinct (pointwise same_shape) lists
+
+abbrev pub PathsAreChains : Type 0
+PathsAreChains =
+    (legs : Legs) (k i : ℕ) → AreDiagrams legs → i ≤ k →
+    (lists : List (List Shape)) × (AreAll (IsPath legs (k + extent legs) i) lists × (length lists ≡ paths legs k i))

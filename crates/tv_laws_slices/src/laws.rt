@@ -1,6 +1,6 @@
 //! Laws of slices: each function does nothing, and its contract is a law.
 
-ghost use Rattle.tv_laws_slices.specs.Laws.{SlicesOnce, CompletionSteps, LeastCompletes, EntriesPush, EntriesAreBounded};
+ghost use Rattle.tv_laws_slices.specs.Laws.{SlicesOnce, CompletionSteps, LeastCompletes, EntriesPush, EntriesAreBounded, PathsAreChains};
 
 /// The slices listed for a diagonal are exactly those that fit and have so many extras, each once.
 pub fn slices_once()
@@ -25,4 +25,9 @@ pub fn entries_push()
 /// An entry has no more ways than there are paths with as many extras as its cost and its completion.
 pub fn entries_are_bounded()
     ensures { EntriesAreBounded }
+{}
+
+/// The number of paths is that of the lists of slices that are paths, each listed once.
+pub fn paths_are_chains()
+    ensures { PathsAreChains }
 {}
