@@ -215,7 +215,7 @@ chains-distinct legs k first are (suc n) s c =
 pub all_paths : Legs → ℕ → ℕ → ℕ → List (List Shape)
 all_paths legs k far i = flat_map (λ s. map (λ slices. s ∷ slices) (chains legs k (neg_ℤ (pos far)) (2 * far) s i)) (fitting legs (pos far) 0)
 
-last-diagonal : (far : ℕ) → diagonal_at (neg_ℤ (pos far)) (2 * far) ≡ pos far
+pub last-diagonal : (far : ℕ) → diagonal_at (neg_ℤ (pos far)) (2 * far) ≡ pos far
 last-diagonal far = omega (arith, ints)
 
 paths-number : (legs : Legs) (k i : ℕ) → length (all_paths legs k (k + extent legs) i) ≡ paths legs k i

@@ -226,7 +226,7 @@ fits-above legs t s h i = elim (cases_lt (s.full + i) (extent legs)) [
     none : (b h : ℕ) → b ≡ 0 → b ≤ h
     none b h e = omega arith
 
-first-spent : (b : ℕ → ℕ) (d : ℕ) (hs : List ℕ) → slice_index hs 0 ≤ b d + spent b d hs
+pub first-spent : (b : ℕ → ℕ) (d : ℕ) (hs : List ℕ) → slice_index hs 0 ≤ b d + spent b d hs
 first-spent b d [] = omega arith
 first-spent b d (h ∷ hs) = omega arith
 

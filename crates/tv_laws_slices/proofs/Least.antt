@@ -27,7 +27,7 @@ abbrev pub trim : (ℕ → ℕ) → ℕ → ℕ → List ℕ
 trim f d zero = []
 trim f d (suc n) = cond (nat_eq (f d) 0) [] (f d ∷ trim f (suc d) n)
 
-falls-far : (f : ℕ → ℕ) → ((i : ℕ) → f (suc i) ≤ f i) → (d i : ℕ) → f (d + i) ≤ f d
+pub falls-far : (f : ℕ → ℕ) → ((i : ℕ) → f (suc i) ≤ f i) → (d i : ℕ) → f (d + i) ≤ f d
 falls-far f next d zero = let e : d + 0 ≡ d = omega arith in rw e (own (f d))
   where
     own : (k : ℕ) → k ≤ k
@@ -80,7 +80,7 @@ trim-falls f next d (suc n) e = by_test (cases_eq (f d) 0) (trim-falls f next (s
         ∙ falls-from (f d) (trim f (suc d) n) (some (f d) ne) (first (slice_index (trim f (suc d) n) 0) (f (suc d)) (f d) (head ∙ ap f s) (next d)) rest
 
 -- the heights of a slice fall, also before its first
-heights-next : (hs : List ℕ) (i : ℕ) → falls hs ≡ true → slice_index hs (suc i) ≤ slice_index hs i
+pub heights-next : (hs : List ℕ) (i : ℕ) → falls hs ≡ true → slice_index hs (suc i) ≤ slice_index hs i
 heights-next [] i f = omega arith
 heights-next (h ∷ hs) zero f = (falls-parts h hs f).1
 heights-next (h ∷ hs) (suc i) f = heights-next hs i (falls-parts h hs f).2
@@ -190,7 +190,7 @@ least legs t a =
     shape (full_of legs (t +ℤ pos 1) (extent legs))
     (trim (least-height legs t a) (full_of legs (t +ℤ pos 1) (extent legs)) (extent legs + reach a))
 
-heights-of : (legs : Legs) (t : ℤ) (a : Shape) → fits legs t a ≡ true → falls a.heights ≡ true
+pub heights-of : (legs : Legs) (t : ℤ) (a : Shape) → fits legs t a ≡ true → falls a.heights ≡ true
 heights-of legs t a f = (and_parts (falls a.heights) (all_below (max (reach a) (extent legs)) (fits_at legs t a)) f).0
 
 behind-next : (t : ℤ) (a : Shape) (d : ℕ) → falls a.heights ≡ true → at a (behind t (suc d)) ≤ at a (behind t d)

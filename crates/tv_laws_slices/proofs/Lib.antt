@@ -8,3 +8,6 @@ pub mod Least
 pub mod Pushed
 pub mod Climb
 pub mod Chains
+pub mod Inside
+pub mod Taken
+pub mod Closed

@@ -15,14 +15,16 @@
 -- IsPath legs far i slices == a chain from the diagonal -far to far with i extras, the one above all the legs alone too
 -- AreAll P lists  == exactly the lists of slices that are so, each once
 -- PathsAreChains  == the number of paths is that of a list of all paths, for i at most k
+-- PathsAreExtras  == the cells of a path of i extras, for i at most k, are extras, and there are i of them
 -- EntriesAreBounded == an entry has no more ways than there are paths with as many extras as its cost and its completion
 use Rattle.std.specs.Prelude.{◌≡◌, ℕ, suc, ◌+◌, ◌-◌, ◌*◌, ◌≤◌, ℤ, pos, neg_ℤ, ◌≤ℤ◌, ◌+ℤ◌, Bool, true, cond, ◌&&◌, ◌↔◌, Contains, List, [], ◌∷◌, length, nat_eq, nat_le}
 use Rattle.std.specs.List.{IsDistinct}
 use Rattle.std.specs.Cmp.Lexicographic.{pointwise}
 use Rattle.tv_lemmas.specs.Sums.{sum_of}
 use Rattle.tv_cells.specs.declared.legs.Legs.{Legs}
-use Rattle.tv_cells.specs.Extras.{bit, extent, AreDiagrams}
+use Rattle.tv_cells.specs.Extras.{bit, extent, is_extras, AreDiagrams}
 use Rattle.tv_spec_slices.specs.Slices.{Shape, interlaces, fits, extras_of, completion}
+use Rattle.tv_laws_slices.specs.Taken.{taken}
 use Rattle.tv_spec_slices.specs.Paths.{fitting_by, fitting, diagonal_at, next_of, ways_at, is_entry, entries, paths}
 
 abbrev pub same_shape : Shape → Shape → Bool
@@ -87,3 +89,8 @@ abbrev pub PathsAreChains : Type 0
 PathsAreChains =
     (legs : Legs) (k i : ℕ) → AreDiagrams legs → i ≤ k →
     (lists : List (List Shape)) × (AreAll (IsPath legs (k + extent legs) i) lists × (length lists ≡ paths legs k i))
+
+abbrev pub PathsAreExtras : Type 0
+PathsAreExtras =
+    (legs : Legs) (k i : ℕ) (slices : List Shape) → AreDiagrams legs → i ≤ k → IsPath legs (k + extent legs) i slices →
+    (is_extras legs (taken legs (k + extent legs) slices) ≡ true) × (length (taken legs (k + extent legs) slices) ≡ i)

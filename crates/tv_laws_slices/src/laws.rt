@@ -1,6 +1,6 @@
 //! Laws of slices: each function does nothing, and its contract is a law.
 
-ghost use Rattle.tv_laws_slices.specs.Laws.{SlicesOnce, CompletionSteps, LeastCompletes, EntriesPush, EntriesAreBounded, PathsAreChains};
+ghost use Rattle.tv_laws_slices.specs.Laws.{SlicesOnce, CompletionSteps, LeastCompletes, EntriesPush, EntriesAreBounded, PathsAreChains, PathsAreExtras};
 
 /// The slices listed for a diagonal are exactly those that fit and have so many extras, each once.
 pub fn slices_once()
@@ -30,4 +30,9 @@ pub fn entries_are_bounded()
 /// The number of paths is that of the lists of slices that are paths, each listed once.
 pub fn paths_are_chains()
     ensures { PathsAreChains }
+{}
+
+/// The cells that a path takes beside the legs are extras, as many as the path has.
+pub fn paths_are_extras()
+    ensures { PathsAreExtras }
 {}
