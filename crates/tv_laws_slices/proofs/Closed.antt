@@ -29,11 +29,11 @@ use Rattle.tv_laws_slices.proofs.Taken.{start, chain-fits-at, chain-beside-at, c
 
 -- ---- neighbouring cells
 
-x-of-place : (t : ℤ) (c : Cell) → on t c ≡ true → c.x ≡ place t c + x_from t
+pub x-of-place : (t : ℤ) (c : Cell) → on t c ≡ true → c.x ≡ place t c + x_from t
 x-of-place (pos n) c h = let e = eqb-true (c.x + 0) (c.y + n) h in omega arith
 x-of-place (negsuc n) c h = omega arith
 
-y-of-place : (t : ℤ) (c : Cell) → on t c ≡ true → c.y ≡ place t c + y_from t
+pub y-of-place : (t : ℤ) (c : Cell) → on t c ≡ true → c.y ≡ place t c + y_from t
 y-of-place (pos n) c h = let e = eqb-true (c.x + 0) (c.y + n) h in omega arith
 y-of-place (negsuc n) c h = let e = eqb-true (c.x + suc n) (c.y + 0) h in omega arith
 
@@ -59,7 +59,7 @@ above-of (negsuc n) c h l = by_values (x_from (negsuc n +ℤ pos 1)) (y_from (ne
 
 -- ---- a slice of no extras has no cells
 
-leg-place : (legs : Legs) (t : ℤ) (c : Cell) → on t c ≡ true → nat_eq (legs_at legs c) 0 ≡ (not (is_endless legs t (place t c)) && nat_le (base_at legs t (place t c)) c.z)
+pub leg-place : (legs : Legs) (t : ℤ) (c : Cell) → on t c ≡ true → nat_eq (legs_at legs c) 0 ≡ (not (is_endless legs t (place t c)) && nat_le (base_at legs t (place t c)) c.z)
 leg-place legs t c h =
     no-leg legs c.x c.y c.z
     ∙ (ap (λ x. not (has legs.along_z x c.y) && nat_le (base legs x c.y) c.z) (x-of-place t c h)

@@ -39,7 +39,7 @@ falls-far f next d (suc i) =
     through : (a b c : ℕ) → a ≤ b → b ≤ c → a ≤ c
     through a b c l m = omega arith
 
-trim-at : (f : ℕ → ℕ) → ((i : ℕ) → f (suc i) ≤ f i) → (d n : ℕ) → f (d + n) ≡ 0 → (i : ℕ) → slice_index (trim f d n) i ≡ f (d + i)
+pub trim-at : (f : ℕ → ℕ) → ((i : ℕ) → f (suc i) ≤ f i) → (d n : ℕ) → f (d + n) ≡ 0 → (i : ℕ) → slice_index (trim f d n) i ≡ f (d + i)
 trim-at f next d zero e i =
     let z : d + 0 ≡ d = omega arith in
     none (f d) (f (d + i)) (ap f (sym z) ∙ e) (falls-far f next d i)
@@ -59,7 +59,7 @@ trim-at f next d (suc n) e i = by_test (cases_eq (f d) 0) i (trim-at f next (suc
     by_test (inl z) i rest = ap (λ c. slice_index (cond c [] (f d ∷ trim f (suc d) n)) i) (eq-eqb (f d) 0 z) ∙ none (f d) (f (d + i)) z (falls-far f next d i)
     by_test (inr ne) i rest = ap (λ c. slice_index (cond c [] (f d ∷ trim f (suc d) n)) i) (ne_eqb (f d) 0 ne) ∙ later i rest
 
-trim-falls : (f : ℕ → ℕ) → ((i : ℕ) → f (suc i) ≤ f i) → (d n : ℕ) → f (d + n) ≡ 0 → falls (trim f d n) ≡ true
+pub trim-falls : (f : ℕ → ℕ) → ((i : ℕ) → f (suc i) ≤ f i) → (d n : ℕ) → f (d + n) ≡ 0 → falls (trim f d n) ≡ true
 trim-falls f next d zero e = refl
 trim-falls f next d (suc n) e = by_test (cases_eq (f d) 0) (trim-falls f next (suc d) n far) (trim-at f next (suc d) n far 0)
   where
@@ -104,25 +104,25 @@ ahead (negsuc n) d = suc d
 has-at : (rows : List ℕ) (x y v w : ℕ) → x ≡ v → y ≡ w → has rows v w ≡ true → has rows x y ≡ true
 has-at rows x y v w e f h = ap (λ k. has rows k y) e ∙ (ap (λ k. has rows v k) f ∙ h)
 
-x-pos : (n d : ℕ) → d + x_from (pos n +ℤ pos 1) ≡ suc (d + n)
+pub x-pos : (n d : ℕ) → d + x_from (pos n +ℤ pos 1) ≡ suc (d + n)
 x-pos n d = ap (λ v. d + v) (x-above n) ∙ omega arith
 
-y-pos : (n d : ℕ) → d + y_from (pos n +ℤ pos 1) ≡ d + 0
+pub y-pos : (n d : ℕ) → d + y_from (pos n +ℤ pos 1) ≡ d + 0
 y-pos n d = ap (λ v. d + v) (y-above n)
 
-x-neg : (n d : ℕ) → d + x_from (negsuc n +ℤ pos 1) ≡ d + 0
+pub x-neg : (n d : ℕ) → d + x_from (negsuc n +ℤ pos 1) ≡ d + 0
 x-neg n d = ap (λ v. d + v) (x-below n)
 
-y-neg : (n d : ℕ) → d + y_from (negsuc n +ℤ pos 1) ≡ d + n
+pub y-neg : (n d : ℕ) → d + y_from (negsuc n +ℤ pos 1) ≡ d + n
 y-neg n d = ap (λ v. d + v) (y-below n)
 
-next_plus : (d n : ℕ) → suc d + n ≡ suc (d + n)
+pub next_plus : (d n : ℕ) → suc d + n ≡ suc (d + n)
 next_plus d n = omega arith
 
-plus_next : (d n : ℕ) → d + suc n ≡ suc (d + n)
+pub plus_next : (d n : ℕ) → d + suc n ≡ suc (d + n)
 plus_next d n = omega arith
 
-endless-behind : (legs : Legs) (t : ℤ) (d : ℕ) → is_endless legs t (behind t d) ≡ true → is_endless legs (t +ℤ pos 1) d ≡ true
+pub endless-behind : (legs : Legs) (t : ℤ) (d : ℕ) → is_endless legs t (behind t d) ≡ true → is_endless legs (t +ℤ pos 1) d ≡ true
 endless-behind legs (pos n) d h =
     has-at legs.along_z (d + x_from (pos n +ℤ pos 1)) (d + y_from (pos n +ℤ pos 1)) (suc (d + n)) (d + 0) (x-pos n d) (y-pos n d)
     (has-lower legs.along_z (suc (d + n)) (d + 0) (has-at legs.along_z (suc (d + n)) (suc (d + 0)) (suc d + n) (suc d + 0) (sym (next_plus d n)) (sym (next_plus d 0)) h))
@@ -130,7 +130,7 @@ endless-behind legs (negsuc n) d h =
     has-at legs.along_z (d + x_from (negsuc n +ℤ pos 1)) (d + y_from (negsuc n +ℤ pos 1)) (d + 0) (d + n) (x-neg n d) (y-neg n d)
     (has-lower legs.along_z (d + 0) (d + n) (has-at legs.along_z (d + 0) (suc (d + n)) (d + 0) (d + suc n) refl (sym (plus_next d n)) h))
 
-endless-ahead : (legs : Legs) (t : ℤ) (d : ℕ) → AreDiagrams legs → is_endless legs (t +ℤ pos 1) (ahead t d) ≡ true → is_endless legs t d ≡ true
+pub endless-ahead : (legs : Legs) (t : ℤ) (d : ℕ) → AreDiagrams legs → is_endless legs (t +ℤ pos 1) (ahead t d) ≡ true → is_endless legs t d ≡ true
 endless-ahead legs (pos n) d are h =
     has-lower_row legs.along_z (d + n) (d + 0) are.along_z
     (has-at legs.along_z (suc (d + n)) (d + 0) (d + x_from (pos n +ℤ pos 1)) (d + y_from (pos n +ℤ pos 1)) (sym (x-pos n d)) (sym (y-pos n d)) h)
@@ -325,7 +325,7 @@ module _ (legs : Legs) (t : ℤ) (a : Shape) (are : AreDiagrams legs) (f : fits 
       (sum_of-below (λ d. upright legs (d + x_from (t +ℤ pos 1)) (suc (d + y_from (t +ℤ pos 1))) (at (least legs t a) d))
       (λ d. upright legs (d + x_from (t +ℤ pos 1)) (suc (d + y_from (t +ℤ pos 1))) (at a (behind t d))) 0 k (λ d low far. one-least d))
 
-both-covers : (t : ℤ) (a b : Shape) (d : ℕ) → covers a d b (ahead t d) ≡ true → covers b d a (behind t d) ≡ true → interlaces_at t a b d ≡ true
+pub both-covers : (t : ℤ) (a b : Shape) (d : ℕ) → covers a d b (ahead t d) ≡ true → covers b d a (behind t d) ≡ true → interlaces_at t a b d ≡ true
 both-covers (pos n) a b d p q = and_from (covers a d b d) (covers b d a (suc d)) p q
 both-covers (negsuc n) a b d p q = and_from (covers b d a d) (covers a d b (suc d)) q p
 

@@ -11,3 +11,4 @@ pub mod Chains
 pub mod Inside
 pub mod Taken
 pub mod Closed
+pub mod Cut

@@ -20,7 +20,7 @@ use Rattle.tv_laws_slices.proofs.Inside.{pick, pick-first, pick-later, inside-so
 
 -- ---- how far a slice of few extras reaches
 
-row-inside : (legs : Legs) (t : ℤ) (d : ℕ) → AreDiagrams legs → base_at legs t d ≤ extent legs
+pub row-inside : (legs : Legs) (t : ℤ) (d : ℕ) → AreDiagrams legs → base_at legs t d ≤ extent legs
 row-inside legs t d are = all (slice_index legs.along_x (d + y_from t)) (slice_index legs.along_y (d + x_from t)) (slice_index legs.along_x 0) (slice_index legs.along_y 0) (length legs.along_x) (length legs.along_y) _
     (falls-row (slice_index legs.along_x 0) legs.along_x (diagram-falls legs.along_x are.along_x) (d + y_from t)) (falls-row (slice_index legs.along_y 0) legs.along_y (diagram-falls legs.along_y are.along_y) (d + x_from t))
   where
@@ -88,7 +88,7 @@ chain-bottom legs first (s ∷ a ∷ slices) c h =
 
 -- ---- as many cells as extras
 
-apart-slices : (legs : Legs) (first : ℤ) (s : Shape) (slices : List Shape) (c : Cell) → in_slice legs (diagonal_at first (length slices)) s c ≡ true → inside legs first slices c ≡ true → ⊥
+pub apart-slices : (legs : Legs) (first : ℤ) (s : Shape) (slices : List Shape) (c : Cell) → in_slice legs (diagonal_at first (length slices)) s c ≡ true → inside legs first slices c ≡ true → ⊥
 apart-slices legs first s slices c p q =
     let r = inside-some legs first slices c q in
     let e = on-same (diagonal_at first (length slices)) (diagonal_at first r.number) c (and_parts (on (diagonal_at first (length slices)) c) _ p).0 (and_parts (on (diagonal_at first r.number) c) _ r.here).0 in

@@ -1,6 +1,6 @@
 //! Laws of slices: each function does nothing, and its contract is a law.
 
-ghost use Rattle.tv_laws_slices.specs.Laws.{SlicesOnce, CompletionSteps, LeastCompletes, EntriesPush, EntriesAreBounded, PathsAreChains, PathsAreExtras};
+ghost use Rattle.tv_laws_slices.specs.Laws.{SlicesOnce, CompletionSteps, LeastCompletes, EntriesPush, EntriesAreBounded, PathsAreChains, PathsAreExtras, ExtrasArePaths};
 
 /// The slices listed for a diagonal are exactly those that fit and have so many extras, each once.
 pub fn slices_once()
@@ -35,4 +35,9 @@ pub fn paths_are_chains()
 /// The cells that a path takes beside the legs are extras, as many as the path has.
 pub fn paths_are_extras()
     ensures { PathsAreExtras }
+{}
+
+/// And each set of extras has the cells of a path, of as many extras.
+pub fn extras_are_paths()
+    ensures { ExtrasArePaths }
 {}
