@@ -1,0 +1,14 @@
+pub mod Sums
+pub mod Listed
+pub mod Bases
+pub mod Fits
+pub mod Once
+pub mod Steps
+pub mod Least
+pub mod Pushed
+pub mod Climb
+pub mod Chains
+pub mod Inside
+pub mod Taken
+pub mod Closed
+pub mod Cut
