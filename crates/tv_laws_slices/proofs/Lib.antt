@@ -12,3 +12,4 @@ pub mod Inside
 pub mod Taken
 pub mod Closed
 pub mod Cut
+pub mod Told
