@@ -13,3 +13,4 @@ pub mod Taken
 pub mod Closed
 pub mod Cut
 pub mod Told
+pub mod Counted

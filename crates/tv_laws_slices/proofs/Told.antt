@@ -1,5 +1,5 @@
 -- A path is told by its cells.
-use Rattle.std.specs.Prelude.{◌≡◌, ℕ, suc, ◌+◌, ◌-◌, ◌*◌, ◌<◌, ◌≤◌, ℤ, pos, negsuc, neg_ℤ, ◌+ℤ◌, nat_abs, Bool, true, false, not, ◌&&◌, nat_eq, nat_lt, nat_le, List, [], ◌∷◌, length, slice_index}
+use Rattle.std.specs.Prelude.{◌≡◌, ℕ, suc, ◌+◌, ◌-◌, ◌*◌, ◌<◌, ◌≤◌, ℤ, pos, negsuc, neg_ℤ, ◌+ℤ◌, nat_abs, true, false, not, ◌&&◌, nat_eq, nat_lt, nat_le, List, [], ◌∷◌, length, slice_index}
 use Rattle.std.specs.List.{list_any}
 use Rattle.std.proofs.Common.{refl, sym, ap, subst, ◌∙◌, arith, inl, inr}
 use Rattle.std.proofs.lemmas.Int.{ints}
@@ -68,7 +68,7 @@ lower legs k t a b are fa fb few near onto i = elim (cases_lt (slice_index b.hei
       let base : base_at legs t d ≤ h = subst (λ g. base_at legs t (g + i) ≤ slice_index b.heights i) (fits-full legs t b are fb) (fits-above legs t b fb i) in
       let free : nat_eq (legs_at legs c) 0 ≡ true = no-leg legs (d + x_from t) (d + y_from t) h ∙ and_from (not (is_endless legs t d)) (nat_le (base_at legs t d) h) (ap not ends) (le-leb (base_at legs t d) h base) in
       let here : in_slice legs t a c ≡ true = and_from (on t c) (nat_eq (legs_at legs c) 0 && nat_lt c.z (at a (place t c))) (on-own t d h)
-          (and_from (nat_eq (legs_at legs c) 0) (nat_lt h (at a (place t c))) free (ap (λ e. nat_lt h (at a e)) (place-own t d h) ∙ lt-ltb h (at a d) h_high)) in
+      (and_from (nat_eq (legs_at legs c) 0) (nat_lt h (at a (place t c))) free (ap (λ e. nat_lt h (at a e)) (place-own t d h) ∙ lt-ltb h (at a d) h_high)) in
       let there = onto c (in_wide d (x_from t) (nat_abs t) short sides.0 near) (in_wide d (y_from t) (nat_abs t) short sides.1 near) (low_wide h (at a d) h_high high) here in
       let tests = (and_parts (on t c) (nat_eq (legs_at legs c) 0 && nat_lt c.z (at b (place t c))) there).1 in
       let less = (and_parts (nat_eq (legs_at legs c) 0) (nat_lt h (at b (place t c))) tests).1 in
@@ -159,10 +159,10 @@ moved legs k xs ys j l e c x y z h =
     let first = neg_ℤ (pos (far legs k)) in
     let n = wide legs k in
     let among : list_any (same c) (taken legs (far legs k) xs) ≡ true = any-filter (inside legs first xs) c (cube n) ∙ and_from (list_any (same c) (cube n)) (inside legs first xs c)
-        (cube-has n c ∙ and_from (nat_lt c.x n) (nat_lt c.y n && nat_lt c.z n) (lt-ltb c.x n x) (and_from (nat_lt c.y n) (nat_lt c.z n) (lt-ltb c.y n y) (lt-ltb c.z n z))) (inside-at legs first xs c j l h) in
+    (cube-has n c ∙ and_from (nat_lt c.x n) (nat_lt c.y n && nat_lt c.z n) (lt-ltb c.x n x) (and_from (nat_lt c.y n) (nat_lt c.z n) (lt-ltb c.y n y) (lt-ltb c.z n z))) (inside-at legs first xs c j l h) in
     let other = (and_parts (list_any (same c) (cube n)) (inside legs first ys c) (sym (any-filter (inside legs first ys) c (cube n)) ∙ (ap (λ cells. list_any (same c) cells) (sym e) ∙ among))).1 in
     let r = inside-some legs first ys c other in
-    let there = on-same (diagonal_at first r.number) (diagonal_at first j) c (and_parts (on (diagonal_at first r.number) c) _ r.here).0 (and_parts (on (diagonal_at first j) c) _ h).0 in
+    let there = on-same (diagonal_at first r.number) (diagonal_at first j) c (and_parts (on (diagonal_at first r.number) c) (nat_eq (legs_at legs c) 0 && nat_lt c.z (at (pick ys r.number) (place (diagonal_at first r.number) c))) r.here).0 (and_parts (on (diagonal_at first j) c) (nat_eq (legs_at legs c) 0 && nat_lt c.z (at (pick xs j) (place (diagonal_at first j) c))) h).0 in
     subst (λ m. in_slice legs (diagonal_at first m) (pick ys m) c ≡ true) (numbers first r.number there) r.here
   where
     numbers : (t : ℤ) (m : ℕ) → diagonal_at t m ≡ diagonal_at t j → m ≡ j
