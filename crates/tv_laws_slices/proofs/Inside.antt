@@ -59,13 +59,13 @@ no-leg legs x y z = by_test (has legs.along_z x y)
         rest : (a b : ℕ) → nat_eq ((bit (nat_lt z a) + bit (nat_lt z b)) + 0) 0 ≡ nat_le (max a b) z
         rest a b = grind (arith, nat_tests)
 
-on-own : (t : ℤ) (d z : ℕ) → on t (cell (d + x_from t) (d + y_from t) z) ≡ true
+pub on-own : (t : ℤ) (d z : ℕ) → on t (cell (d + x_from t) (d + y_from t) z) ≡ true
 on-own t d z = eq-eqb _ _ (turn (x_from t) (y_from t))
   where
     turn : (x y : ℕ) → (d + x) + y ≡ (d + y) + x
     turn x y = omega arith
 
-place-own : (t : ℤ) (d z : ℕ) → place t (cell (d + x_from t) (d + y_from t) z) ≡ d
+pub place-own : (t : ℤ) (d z : ℕ) → place t (cell (d + x_from t) (d + y_from t) z) ≡ d
 place-own t d z = back (x_from t)
   where
     back : (x : ℕ) → (d + x) - x ≡ d

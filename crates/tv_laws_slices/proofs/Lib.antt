@@ -12,3 +12,5 @@ pub mod Inside
 pub mod Taken
 pub mod Closed
 pub mod Cut
+pub mod Told
+pub mod Counted

@@ -17,6 +17,7 @@
 -- PathsAreChains  == the number of paths is that of a list of all paths, for i at most k
 -- PathsAreExtras  == the cells of a path of i extras, for i at most k, are extras, and there are i of them
 -- ExtrasArePaths  == each set of i extras, for i at most k, has the cells of a path of i extras
+-- PathsAreCounted == so the number of paths of i extras, for i at most k, is that of the sets of i extras
 -- EntriesAreBounded == an entry has no more ways than there are paths with as many extras as its cost and its completion
 use Rattle.std.specs.Prelude.{◌≡◌, ℕ, suc, ◌+◌, ◌-◌, ◌*◌, ◌≤◌, ℤ, pos, neg_ℤ, ◌≤ℤ◌, ◌+ℤ◌, Bool, true, cond, ◌&&◌, ◌↔◌, Contains, List, [], ◌∷◌, length, nat_eq, nat_le}
 use Rattle.std.specs.List.{IsDistinct}
@@ -25,7 +26,7 @@ use Rattle.tv_lemmas.specs.Sums.{sum_of}
 use Rattle.tv_cells.specs.declared.cell.Cell.{Cell}
 use Rattle.tv_cells.specs.Cells.{rises}
 use Rattle.tv_cells.specs.declared.legs.Legs.{Legs}
-use Rattle.tv_cells.specs.Extras.{bit, extent, is_extras, AreDiagrams}
+use Rattle.tv_cells.specs.Extras.{bit, extent, is_extras, count, AreDiagrams}
 use Rattle.tv_spec_slices.specs.Slices.{Shape, interlaces, fits, extras_of, completion}
 use Rattle.tv_laws_slices.specs.Taken.{taken}
 use Rattle.tv_spec_slices.specs.Paths.{fitting_by, fitting, diagonal_at, next_of, ways_at, is_entry, entries, paths}
@@ -102,3 +103,6 @@ abbrev pub ExtrasArePaths : Type 0
 ExtrasArePaths =
     (legs : Legs) (k i : ℕ) (cells : List Cell) → AreDiagrams legs → i ≤ k → rises cells ≡ true → is_extras legs cells ≡ true → length cells ≡ i →
     (slices : List Shape) × (IsPath legs (k + extent legs) i slices × (taken legs (k + extent legs) slices ≡ cells))
+
+abbrev pub PathsAreCounted : Type 0
+PathsAreCounted = (legs : Legs) (k i : ℕ) → AreDiagrams legs → i ≤ k → paths legs k i ≡ count legs i

@@ -1,6 +1,6 @@
 //! Laws of slices: each function does nothing, and its contract is a law.
 
-ghost use Rattle.tv_laws_slices.specs.Laws.{SlicesOnce, CompletionSteps, LeastCompletes, EntriesPush, EntriesAreBounded, PathsAreChains, PathsAreExtras, ExtrasArePaths};
+ghost use Rattle.tv_laws_slices.specs.Laws.{SlicesOnce, CompletionSteps, LeastCompletes, EntriesPush, EntriesAreBounded, PathsAreChains, PathsAreExtras, ExtrasArePaths, PathsAreCounted};
 
 /// The slices listed for a diagonal are exactly those that fit and have so many extras, each once.
 pub fn slices_once()
@@ -40,4 +40,9 @@ pub fn paths_are_extras()
 /// And each set of extras has the cells of a path, of as many extras.
 pub fn extras_are_paths()
     ensures { ExtrasArePaths }
+{}
+
+/// So there are as many paths of so many extras as sets of them: the paths give the count.
+pub fn paths_are_counted()
+    ensures { PathsAreCounted }
 {}
