@@ -17,8 +17,9 @@ use Rattle.tv_spec_boxes.specs.Configurations.{boxes_left}
 use Rattle.tv_spec_series.specs.Families.{coefficient}
 use Rattle.tv_laws_series.proofs.Coefficients.{coefficient_below, coefficient_at}
 use Rattle.tv_laws_counts.specs.Ways.{ways_at, start_of, assignment_coefficient}
-use Rattle.tv_laws_counts.proofs.Bounds.{none_below_start}
+use Rattle.tv_laws_counts.proofs.Bounds.{none_below_start, int_min-right}
 use Rattle.tv_assigned_series.specs.Terms.{signed_times, first_exponent, assignment_terms}
+use Rattle.tv_lemmas.proofs.Signs.{signed-size}
 
 pub signed_times-is : {A : Type 0} (r : Operations A) (w : Web) (fixed : List Rows) (a : Assignment) (low : ℤ) (i : ℕ) → signed_times r w fixed a low i ≡ whole_times r (assignment_coefficient w fixed a (low +ℤ pos i))
 unfolding signed_times
@@ -27,9 +28,6 @@ signed_times-is r w fixed a low i = refl
 -- its lowest exponent
 pub terms-low : {A : Type 0} (r : Operations A) (w : Web) (fixed : List Rows) (n : ℤ) (a : Assignment) → (assignment_terms r w fixed n a).low ≡ int_min (start_of w fixed a) (n +ℤ pos 1)
 terms-low r w fixed n a = refl
-
-min-right : (x y : ℤ) → int_min x y ≤ℤ y
-min-right x y = grind (arith, ints)
 
 -- what lies below the lesser and not above the second lies below the first
 below-left : (s n i : ℤ) → i ≤ℤ n → i <ℤ int_min s (n +ℤ pos 1) → i <ℤ s
@@ -43,7 +41,7 @@ listed-upto f l n h = ap (λ d. (l +ℤ pos d) -ℤ pos 1) (length-listed f (abo
 
 -- it is known through n
 pub terms-upto : {A : Type 0} (r : Operations A) (w : Web) (fixed : List Rows) (n : ℤ) (a : Assignment) → upto (assignment_terms r w fixed n a) ≡ n
-terms-upto r w fixed n a = listed-upto (signed_times r w fixed a (first_exponent w fixed n a)) (first_exponent w fixed n a) n (min-right (start_of w fixed a) (n +ℤ pos 1))
+terms-upto r w fixed n a = listed-upto (signed_times r w fixed a (first_exponent w fixed n a)) (first_exponent w fixed n a) n (int_min-right (start_of w fixed a) (n +ℤ pos 1))
 
 place-within : (l i n : ℤ) → l ≤ℤ i → i ≤ℤ n → above l i < above l (n +ℤ pos 1)
 place-within l i n h k =
@@ -77,11 +75,6 @@ terms-coefficient r w fixed n i a h = elim (below-or-not i (first_exponent w fix
   | inl low ↦ coefficient_below r (assignment_terms r w fixed n a) i low ∙ below-start r w fixed n a i (below-left (start_of w fixed a) n i h low)
   | inr high ↦ from-low r w fixed n a (first_exponent w fixed n a) i high h
 ]
-
--- the absolute value of a number with a sign
-signed-size : (b : Bool) (n : ℕ) → unsigned_abs (cond b (pos 1) (negsuc 0) *ℤ pos n) ≡ n
-signed-size true n = omega (arith, ints)
-signed-size false n = omega (arith, ints)
 
 pub coefficient-size : (w : Web) (fixed : List Rows) (a : Assignment) (i : ℤ) → unsigned_abs (assignment_coefficient w fixed a i) ≡ ways_at (all_legs w a fixed) (boxes_left w fixed a i)
 unfolding assignment_coefficient

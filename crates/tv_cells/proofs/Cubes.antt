@@ -135,7 +135,7 @@ member_each n c (d ∷ cells) e any = elim (or_cases (same c d) (list_any (same 
   | inr there ↦ member_each n c cells e.1 there
 ]
 
-starts_within : (t : ℤ) → (x_from t ≤ nat_abs t) × (y_from t ≤ nat_abs t)
+pub starts_within : (t : ℤ) → (x_from t ≤ nat_abs t) × (y_from t ≤ nat_abs t)
 starts_within (pos n) = (omega arith, omega arith)
 starts_within (negsuc n) = (omega arith, omega arith)
 

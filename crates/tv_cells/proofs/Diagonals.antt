@@ -5,7 +5,11 @@ use Rattle.std.specs.List.{flat_map, range_with_len}
 use Rattle.std.proofs.lemmas.Int.{ints}
 use Rattle.tv_cells.specs.declared.cell.Cell.{Cell}
 use Rattle.tv_cells.specs.Cells.{x_from, y_from, diagonal, falling, cube}
-use Rattle.tv_cells.specs.Grid.{columns, diagonal_of, diagonals}
+use Rattle.tv_cells.specs.Grid.{columns, diagonal_of}
+
+-- the diagonals of the cube of that side from number k on, n of them
+abbrev pub diagonals : ℕ → ℕ → ℕ → List Cell
+diagonals side k n = flat_map (diagonal_of side) (range_with_len k n)
 
 -- the numbers from k to n - 1 begin with k
 pub numbers-next : (k n : ℕ) → k < n → range_with_len k (n - k) ≡ k ∷ range_with_len (k + 1) (n - (k + 1))

@@ -6,6 +6,7 @@ use Rattle.tv_partition.proofs.Shapes.{has-below}
 use Rattle.tv_cells.specs.Extras.{bit, extent}
 use Rattle.tv_cells.specs.Laws.{OverlapsAreInside}
 use Rattle.tv_cells.proofs.Cubes.{cube-has}
+use Rattle.tv_lemmas.proofs.Naturals.{first-max, second-max, third-max}
 
 both-inside : (rows : List ℕ) (i j n : ℕ) → IsDiagram rows → reach rows ≤ n → has rows i j ≡ true → (i < n) × (j < n)
 both-inside rows i j n d l h = less (reach rows) l (has-below rows d i j h)
@@ -22,15 +23,6 @@ two-legs false true true x y z n f g h more = ((g refl).0, (h refl).1, (g refl).
 two-legs false true false x y z n f g h more = absurd (omega arith)
 two-legs false false true x y z n f g h more = absurd (omega arith)
 two-legs false false false x y z n f g h more = absurd (omega arith)
-
-first-max : (a b c : ℕ) → a ≤ max a (max b c)
-first-max a b c = omega arith
-
-second-max : (a b c : ℕ) → b ≤ max a (max b c)
-second-max a b c = omega arith
-
-third-max : (a b c : ℕ) → c ≤ max a (max b c)
-third-max a b c = omega arith
 
 pub overlaps-are-inside : OverlapsAreInside
 overlaps-are-inside legs c d more =

@@ -11,8 +11,8 @@ use Rattle.tv_cells.specs.declared.legs.Legs.{Legs}
 use Rattle.tv_cells.specs.Cells.{cell, cube}
 use Rattle.tv_cells.specs.Extras.{AreDiagrams, bit, legs_at, extent}
 use Rattle.tv_cells.specs.Costs.{overlaps, column_cost, overlap_cost}
-use Rattle.tv_cells.specs.Grid.{heights, columns, diagonal_of, diagonals}
-use Rattle.tv_cells.proofs.Diagonals.{numbers-next, numbers-none, cube-diagonals}
+use Rattle.tv_cells.specs.Grid.{heights, columns, diagonal_of}
+use Rattle.tv_cells.proofs.Diagonals.{diagonals, numbers-next, numbers-none, cube-diagonals}
 
 overlaps-append : (legs : Legs) (front back : List Cell) → overlaps legs (front ++ back) ≡ overlaps legs front + overlaps legs back
 unfolding overlaps

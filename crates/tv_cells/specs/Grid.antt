@@ -1,9 +1,8 @@
--- Parts of a cube: columns, diagonals, and the diagonals by their numbers.
+-- Parts of a cube: columns and diagonals.
 --
 -- heights x y k n       == the cells at (x, y) with z from k on, n of them
 -- columns x y h k n     == the columns of height h at (x + k, y + k) and the n - 1 places after it
--- diagonal_of side k    == diagonal number k of the cube of that side
--- diagonals side k n    == the diagonals of the cube of that side from number k on, n of them, number 0 being that of the greatest x
+-- diagonal_of side k    == diagonal number k of the cube of that side, number 0 being that of the greatest x
 use Rattle.std.specs.Prelude.{ℕ, ◌+◌, ◌-◌, List, map}
 use Rattle.std.specs.List.{flat_map, range_with_len}
 use Rattle.tv_cells.specs.declared.cell.Cell.{Cell}
@@ -17,6 +16,3 @@ columns x y h k n = flat_map (λ d. heights (d + x) (d + y) 0 h) (range_with_len
 
 abbrev pub diagonal_of : ℕ → ℕ → List Cell
 diagonal_of side k = columns ((side - 1) - k) (k - (side - 1)) side 0 (side - (((side - 1) - k) + (k - (side - 1))))
-
-abbrev pub diagonals : ℕ → ℕ → ℕ → List Cell
-diagonals side k n = flat_map (diagonal_of side) (range_with_len k n)

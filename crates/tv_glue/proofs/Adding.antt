@@ -20,7 +20,8 @@ use Rattle.tv_assigned_series.specs.Terms.{assignment_terms, IsTooMany}
 use Rattle.tv_assigned_series.proofs.Coefficients.{terms-upto, terms-low, terms-coefficient}
 use Rattle.tv_assignment.proofs.Listed.{listed-one_each, listed-few}
 use Rattle.tv_spec_series.specs.Full.{IsFull}
-use Rattle.tv_laws_families.specs.Glued.{IsTermsOf, IsGlued}
+use Rattle.tv_laws_families.specs.Glued.{IsGlued}
+use Rattle.tv_laws_families.proofs.Addends.{IsTermsOf}
 use Rattle.tv_laws_families.proofs.Glued.{glued-none, glued-more}
 use Rattle.tv_laws_families.proofs.Full.{glued-full}
 use Rattle.tv_glue.specs.Faults.{IsCrowded}

@@ -22,7 +22,8 @@ use Rattle.tv_spec_plane.specs.Graded.{IsGraded}
 use Rattle.tv_laws_counts.proofs.Bounds.{boxes_within}
 use Rattle.tv_laws_counts.proofs.Crowds.{crowd_of_front, crowd_of_corner}
 use Rattle.tv_assigned_series.specs.Terms.{IsTooMany}
-use Rattle.tv_laws_families.specs.Glued.{IsTermsOf, IsGlued}
+use Rattle.tv_laws_families.specs.Glued.{IsGlued}
+use Rattle.tv_laws_families.proofs.Addends.{IsTermsOf}
 use Rattle.tv_laws_families.proofs.Wide.{sum-crowd}
 use Rattle.tv_glue.specs.Faults.{IsCrowded}
 

@@ -26,7 +26,9 @@ use Rattle.tv_triangulation.specs.Turned.{turned, turned_of}
 use Rattle.tv_triangulation.proofs.Tilings.{triangulated-tiles}
 use Rattle.tv_grids.specs.Laws.{HasUnitDegrees, GridsAreAccepted}
 use Rattle.tv_grids.proofs.Within.{grid-within, length-over}
-use Rattle.tv_grids.proofs.Tested.{both, less, same, all-below, all-listed, is_turned, turned-tested, are_once, are_matched, matched-tested, is_run, run-tested}
+use Rattle.tv_grids.proofs.Tested.{all-below, all-listed, is_turned, turned-tested, are_once, are_matched, matched-tested, is_run, run-tested}
+use Rattle.tv_lemmas.proofs.Naturals.{nat_lt-tells, nat_eq-tells}
+use Rattle.std.proofs.lemmas.Bool.{and_parts}
 
 abbrev rise : ℕ → List Segment
 rise k = map (λ x. (place k x 0, place k (suc x) 0)) (below k) ++ map (λ y. (place k k y, place k k (suc y))) (below k)
@@ -64,7 +66,7 @@ unfolding line_text digits
 all_short = refl
 
 pub text-short : (j : ℕ) → j < 7 → length (grid_text (suc j)) ≤ 65536
-text-short j h = omega (arith, less (length (grid_text (suc j))) 65537 (all-below (λ j. is_short (suc j)) 7 all_short j h))
+text-short j h = omega (arith, nat_lt-tells (length (grid_text (suc j))) 65537 (all-below (λ j. is_short (suc j)) 7 all_short j h))
 
 distinct-by : (ps : List Point) (g : Point → ℕ) → ((i : ℕ) → i < length ps → g (at ps i) ≡ i) → AreDistinct ps
 distinct-by ps g placed i j h l e = sym (placed i h) ∙ ap g e ∙ placed j l
@@ -86,11 +88,11 @@ spans ps t e flat =
 
 tiles : (k : ℕ) → k ≤ 7 → tiling k ≡ true → boundary k ≡ true → AreDistinct (grid_points k) → SpansPlane (grid_points k) → AreTurned (grid_points k) (squares k) → Tiles (grid_points k) (squares k)
 tiles k h tested bound distinct spread are_turned =
-    let runs = both (is_run (grid_points k) Up 0 (rise k) (place k k k)) _ bound in
+    let runs = and_parts (is_run (grid_points k) Up 0 (rise k) (place k k k)) _ bound in
     let small = (grid-within k h).coordinates in
     let up = run-tested (grid_points k) Up 0 (rise k) (place k k k) runs.0 in
     let down = run-tested (grid_points k) Down (place k k k) (fall k) 0 runs.1 in
-    let rest = both (are_once (edges (squares k))) _ (both (list_all (is_turned (grid_points k)) (squares k)) _ tested).1 in
+    let rest = and_parts (are_once (edges (squares k))) _ (and_parts (list_all (is_turned (grid_points k)) (squares k)) _ tested).1 in
     triangulated-tiles (record { points = grid_points k; triangles = squares k }) small (record {
       hull = rise k ++ fall k;
       distinct = distinct;
@@ -102,13 +104,13 @@ tiles k h tested bound distinct spread are_turned =
 
 unit-degrees : (k : ℕ) → k ≤ 7 → passes k ≡ true → HasUnitDegrees (grid k)
 unit-degrees k h e =
-    let parts = both (tiling k && boundary k) (spread k && degrees k) e in
-    let plane = both (tiling k) (boundary k) parts.0 in
-    let rest = both (spread k) (degrees k) parts.1 in
-    let apart = both (is_turned (grid_points k) (lower k 0 0)) _ rest.0 in
-    let distinct = distinct-by (grid_points k) (place_of k) (λ i l. same _ i (all-below (λ i. nat_eq (place_of k (at (grid_points k) i)) i) (length (grid_points k)) apart.1 i l)) in
+    let parts = and_parts (tiling k && boundary k) (spread k && degrees k) e in
+    let plane = and_parts (tiling k) (boundary k) parts.0 in
+    let rest = and_parts (spread k) (degrees k) parts.1 in
+    let apart = and_parts (is_turned (grid_points k) (lower k 0 0)) _ rest.0 in
+    let distinct = distinct-by (grid_points k) (place_of k) (λ i l. nat_eq-tells _ i (all-below (λ i. nat_eq (place_of k (at (grid_points k) i)) i) (length (grid_points k)) apart.1 i l)) in
     let spans_plane = spans (grid_points k) (lower k 0 0) apart.0 in
-    let are_turned = all-listed (is_turned (grid_points k)) _ (turned-tested (grid_points k)) (squares k) (both (list_all (is_turned (grid_points k)) (squares k)) _ plane.0).0 in
+    let are_turned = all-listed (is_turned (grid_points k)) _ (turned-tested (grid_points k)) (squares k) (and_parts (list_all (is_turned (grid_points k)) (squares k)) _ plane.0).0 in
     record {
       tiled = turned-tiled (grid_points k) (squares k) distinct spans_plane are_turned (tiles k h plane.0 plane.1 distinct spans_plane are_turned);
       turned = turned-same (grid_points k) (squares k) are_turned;

@@ -18,7 +18,7 @@ use Rattle.tv_spec_plane.specs.Web.{Web}
 use Rattle.tv_spec_text.specs.Lines.{Line, words, word_lines, line_text, text_of, spelled, IsNumber}
 use Rattle.tv_spec_text.specs.Files.{point_line, triangle_line, heights_line, end_line, file_lines, PointFits, TriangleFits, Fits, Spells}
 use Rattle.tv_text.proofs.Decimals.{decimal-digits}
-use Rattle.tv_grids.proofs.Tested.{both}
+use Rattle.std.proofs.lemmas.Bool.{and_parts}
 
 abbrev Above : ℕ → List ℕ → Type 0
 Above n bs = AllByRecursion (λ b. n < b) bs
@@ -77,7 +77,7 @@ reads-back ((w ∷ ws) ∷ ls) all =
 word-above : (bs : List ℕ) → list_all (nat_lt 32) bs ≡ true → Above 32 bs
 word-above [] e = tt
 word-above (b ∷ bs) e =
-    let parts = both (nat_lt 32 b) (list_all (nat_lt 32) bs) e in
+    let parts = and_parts (nat_lt 32 b) (list_all (nat_lt 32) bs) e in
     let first : 32 < b = grind (arith, nat_tests, parts.0) in (first, word-above bs parts.1)
 
 file-plain : (w : Web) → Fits w → AllByRecursion IsPlain (file_lines w)

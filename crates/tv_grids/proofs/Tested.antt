@@ -1,6 +1,6 @@
 -- Tests of points, triangles and a hull, and what they mean.
 --
--- below_zero z       == z is less than 0
+-- below_zero z       == z is nat_lt-tells than 0
 -- is_before h p q    == q comes after p on a way up, by x, then y, or on a way down
 -- is_level p q       == the points are one
 -- is_outer ps s      == the segment is one of the hull
@@ -29,24 +29,12 @@ use Rattle.tv_laws_tiling.specs.Hull.{IsLess}
 use Rattle.tv_laws_tiling.specs.Edges.{edges, back, IsTurned, IsMatched}
 use Rattle.tv_triangulation.specs.Segments.{same_segment}
 use Rattle.tv_triangulation.proofs.SegmentTests.{list_any-among, among-list_any}
-
-pub both : (a b : Bool) → (a && b) ≡ true → (a ≡ true) × (b ≡ true)
-both true b e = (refl, e)
-both false b e = absurd (cc)
-
-either : (a b : Bool) → (a || b) ≡ true → (a ≡ true) ⊎ (b ≡ true)
-either true b e = inl refl
-either false b e = inr e
+use Rattle.tv_lemmas.proofs.Naturals.{nat_lt-tells, nat_eq-tells}
+use Rattle.std.proofs.lemmas.Bool.{and_parts, or_cases}
 
 untrue : (a : Bool) → not a ≡ true → a ≡ true → ⊥
 untrue true e h = cc
 untrue false e h = cc
-
-pub less : (m n : ℕ) → nat_lt m n ≡ true → m < n
-less m n e = grind (arith, nat_tests)
-
-pub same : (m n : ℕ) → nat_eq m n ≡ true → m ≡ n
-same m n e = grind (arith, nat_tests)
 
 -- ---- all of a list
 pub all-below : (f : ℕ → Bool) (n : ℕ) → list_all f (below n) ≡ true → (i : ℕ) → i < n → f i ≡ true
@@ -56,12 +44,12 @@ all-below f n e i h =
 
 all-among : {A : Type 0} (f : A → Bool) (xs : List A) → list_all f xs ≡ true → (x : A) → Among x xs → f x ≡ true
 all-among f [] e x among = absurd among
-all-among f (y ∷ ys) e x (inl is) = subst (λ z. f z ≡ true) (sym is) (both (f y) (list_all f ys) e).0
-all-among f (y ∷ ys) e x (inr among) = all-among f ys (both (f y) (list_all f ys) e).1 x among
+all-among f (y ∷ ys) e x (inl is) = subst (λ z. f z ≡ true) (sym is) (and_parts (f y) (list_all f ys) e).0
+all-among f (y ∷ ys) e x (inr among) = all-among f ys (and_parts (f y) (list_all f ys) e).1 x among
 
 pub all-listed : {A : Type 0} (f : A → Bool) (P : A → Type 0) → ((x : A) → f x ≡ true → P x) → (xs : List A) → list_all f xs ≡ true → AllByRecursion P xs
 all-listed f P means [] e = tt
-all-listed f P means (x ∷ xs) e = let parts = both (f x) (list_all f xs) e in (means x parts.0, all-listed f P means xs parts.1)
+all-listed f P means (x ∷ xs) e = let parts = and_parts (f x) (list_all f xs) e in (means x parts.0, all-listed f P means xs parts.1)
 
 -- ---- points
 abbrev pub is_before : Heading → Point → Point → Bool
@@ -69,9 +57,9 @@ is_before Up p q = positive (q.x -ℤ p.x) || (int_eq p.x q.x && positive (q.y -
 is_before Down p q = positive (p.x -ℤ q.x) || (int_eq q.x p.x && positive (p.y -ℤ q.y))
 
 less-by : (p q : Point) → (positive (q.x -ℤ p.x) || (int_eq p.x q.x && positive (q.y -ℤ p.y))) ≡ true → IsLess p q
-less-by p q e = elim (either (positive (q.x -ℤ p.x)) (int_eq p.x q.x && positive (q.y -ℤ p.y)) e) [
+less-by p q e = elim (or_cases (positive (q.x -ℤ p.x)) (int_eq p.x q.x && positive (q.y -ℤ p.y)) e) [
   | inl first ↦ let h = true-positive (q.x -ℤ p.x) first in inl (omega (arith, ints))
-  | inr second ↦ let parts = both (int_eq p.x q.x) (positive (q.y -ℤ p.y)) second in let h = true-positive (q.y -ℤ p.y) parts.1 in inr ((Decides-int_eq p.x q.x).0 parts.0, omega (arith, ints))
+  | inr second ↦ let parts = and_parts (int_eq p.x q.x) (positive (q.y -ℤ p.y)) second in let h = true-positive (q.y -ℤ p.y) parts.1 in inr ((Decides-int_eq p.x q.x).0 parts.0, omega (arith, ints))
 ]
 
 before-ahead : (heading : Heading) (p q : Point) → is_before heading p q ≡ true → IsAhead heading p q
@@ -90,13 +78,13 @@ no_less p q (inr level) (inl second) = omega (arith, ints, level.0)
 no_less p q (inr level) (inr second) = omega (arith, ints, level.1, second.1)
 
 pub not-ahead : (heading : Heading) (p q : Point) → (is_before heading q p || is_level p q) ≡ true → IsAhead heading p q → ⊥
-not-ahead Up p q e = elim (either (is_before Up q p) (is_level p q) e) [
+not-ahead Up p q e = elim (or_cases (is_before Up q p) (is_level p q) e) [
   | inl first ↦ no_less p q (inl (less-by q p first))
-  | inr level ↦ let parts = both (int_eq p.x q.x) (int_eq p.y q.y) level in no_less p q (inr ((Decides-int_eq p.x q.x).0 parts.0, (Decides-int_eq p.y q.y).0 parts.1))
+  | inr level ↦ let parts = and_parts (int_eq p.x q.x) (int_eq p.y q.y) level in no_less p q (inr ((Decides-int_eq p.x q.x).0 parts.0, (Decides-int_eq p.y q.y).0 parts.1))
 ]
-not-ahead Down p q e = elim (either (is_before Down q p) (is_level p q) e) [
+not-ahead Down p q e = elim (or_cases (is_before Down q p) (is_level p q) e) [
   | inl first ↦ no_less q p (inl (less-by p q first))
-  | inr level ↦ let parts = both (int_eq p.x q.x) (int_eq p.y q.y) level in no_less q p (inr (sym ((Decides-int_eq p.x q.x).0 parts.0), sym ((Decides-int_eq p.y q.y).0 parts.1)))
+  | inr level ↦ let parts = and_parts (int_eq p.x q.x) (int_eq p.y q.y) level in no_less q p (inr (sym ((Decides-int_eq p.x q.x).0 parts.0), sym ((Decides-int_eq p.y q.y).0 parts.1)))
 ]
 
 -- ---- segments of the hull
@@ -111,15 +99,15 @@ abbrev pub is_outer : List Point → Segment → Bool
 is_outer ps s = (nat_lt s.0 (length ps) && nat_lt s.1 (length ps)) && (not (is_level (at ps s.0) (at ps s.1)) && list_all (λ k. keeps (at ps s.0) (at ps s.1) (at ps k)) (below (length ps)))
 
 keeps-left : (a b c : Point) → keeps a b c ≡ true → pos 0 ≤ℤ turn a b c
-keeps-left a b c e = elim (either (positive (turn a b c)) _ e) [
+keeps-left a b c e = elim (or_cases (positive (turn a b c)) _ e) [
   | inl first ↦ let h = true-positive (turn a b c) first in omega (arith, ints)
-  | inr second ↦ let h = (Decides-int_eq (turn a b c) (pos 0)).0 (both _ _ second).0 in omega (arith, ints)
+  | inr second ↦ let h = (Decides-int_eq (turn a b c) (pos 0)).0 (and_parts _ _ second).0 in omega (arith, ints)
 ]
 
 keeps-bare : (ps : List Point) (a b k : ℕ) → keeps (at ps a) (at ps b) (at ps k) ≡ true → IsBetween ps a b k → ⊥
-keeps-bare ps a b k e between = elim (either (positive (turn (at ps a) (at ps b) (at ps k))) _ e) [
+keeps-bare ps a b k e between = elim (or_cases (positive (turn (at ps a) (at ps b) (at ps k))) _ e) [
   | inl first ↦ let h = true-positive (turn (at ps a) (at ps b) (at ps k)) first in omega (arith, ints, between.on_line)
-  | inr second ↦ untrue _ (both _ _ second).1 (below-positive (product (at ps a) (at ps b) (at ps k)) between.inside)
+  | inr second ↦ untrue _ (and_parts _ _ second).1 (below-positive (product (at ps a) (at ps b) (at ps k)) between.inside)
 ]
   where
     below-positive : (z : ℤ) → z <ℤ pos 0 → positive (neg_ℤ z) ≡ true
@@ -130,13 +118,13 @@ level-same p q e = let x : int_eq p.x q.x ≡ true = (Decides-int_eq p.x q.x).1 
 
 outer-segment : (ps : List Point) (s : Segment) → is_outer ps s ≡ true → IsHullSegment ps s.0 s.1
 outer-segment ps s e =
-    let parts = both (nat_lt s.0 (length ps) && nat_lt s.1 (length ps)) _ e in
-    let listed = both (nat_lt s.0 (length ps)) (nat_lt s.1 (length ps)) parts.0 in
-    let rest = both (not (is_level (at ps s.0) (at ps s.1))) _ parts.1 in
+    let parts = and_parts (nat_lt s.0 (length ps) && nat_lt s.1 (length ps)) _ e in
+    let listed = and_parts (nat_lt s.0 (length ps)) (nat_lt s.1 (length ps)) parts.0 in
+    let rest = and_parts (not (is_level (at ps s.0) (at ps s.1))) _ parts.1 in
     let each = all-below (λ k. keeps (at ps s.0) (at ps s.1) (at ps k)) (length ps) rest.1 in
     record {
-      first_listed = less s.0 (length ps) listed.0;
-      second_listed = less s.1 (length ps) listed.1;
+      first_listed = nat_lt-tells s.0 (length ps) listed.0;
+      second_listed = nat_lt-tells s.1 (length ps) listed.1;
       apart = λ is. untrue _ rest.0 (level-same (at ps s.0) (at ps s.1) is);
       left = λ k h. keeps-left (at ps s.0) (at ps s.1) (at ps k) (each k h);
       bare = λ k h. keeps-bare ps s.0 s.1 k (each k h);
@@ -147,10 +135,10 @@ is_way ps heading a [] b = nat_eq a b
 is_way ps heading a (s ∷ ss) b = nat_eq s.0 a && (is_before heading (at ps s.0) (at ps s.1) && is_way ps heading s.1 ss b)
 
 way-tested : (ps : List Point) (heading : Heading) (a : ℕ) (ss : List Segment) (b : ℕ) → is_way ps heading a ss b ≡ true → IsWay ps heading a ss b
-way-tested ps heading a [] b e = same a b e
+way-tested ps heading a [] b e = nat_eq-tells a b e
 way-tested ps heading a (s ∷ ss) b e =
-    let parts = both (nat_eq s.0 a) _ e in let rest = both (is_before heading (at ps s.0) (at ps s.1)) _ parts.1 in
-    (same s.0 a parts.0, before-ahead heading (at ps s.0) (at ps s.1) rest.0, way-tested ps heading s.1 ss b rest.1)
+    let parts = and_parts (nat_eq s.0 a) _ e in let rest = and_parts (is_before heading (at ps s.0) (at ps s.1)) _ parts.1 in
+    (nat_eq-tells s.0 a parts.0, before-ahead heading (at ps s.0) (at ps s.1) rest.0, way-tested ps heading s.1 ss b rest.1)
 
 abbrev pub is_end : List Point → Heading → ℕ → Bool
 is_end ps heading b = list_all (λ k. is_before heading (at ps k) (at ps b) || is_level (at ps b) (at ps k)) (below (length ps))
@@ -163,13 +151,13 @@ is_run ps heading a ss b = (is_way ps heading a ss b && list_all (is_outer ps) s
 
 pub run-tested : (ps : List Point) (heading : Heading) (a : ℕ) (ss : List Segment) (b : ℕ) → is_run ps heading a ss b ≡ true → IsRun ps heading a ss b
 run-tested ps heading a ss b e =
-    let parts = both (is_way ps heading a ss b && list_all (is_outer ps) ss) _ e in
-    let way = both (is_way ps heading a ss b) (list_all (is_outer ps) ss) parts.0 in
-    let end = both (nat_lt b (length ps)) (is_end ps heading b) parts.1 in
+    let parts = and_parts (is_way ps heading a ss b && list_all (is_outer ps) ss) _ e in
+    let way = and_parts (is_way ps heading a ss b) (list_all (is_outer ps) ss) parts.0 in
+    let end = and_parts (nat_lt b (length ps)) (is_end ps heading b) parts.1 in
     record {
       way = way-tested ps heading a ss b way.0;
       each = λ p q among. outer-segment ps (p, q) (all-among (is_outer ps) ss way.1 (p, q) among);
-      listed = less b (length ps) end.0;
+      listed = nat_lt-tells b (length ps) end.0;
       last = end-tested ps heading b end.1;
     }
 
@@ -179,11 +167,11 @@ is_turned ps t = (nat_lt t.a (length ps) && (nat_lt t.b (length ps) && nat_lt t.
 
 pub turned-tested : (ps : List Point) (t : Triple) → is_turned ps t ≡ true → IsTurned ps t
 turned-tested ps t e =
-    let parts = both (nat_lt t.a (length ps) && (nat_lt t.b (length ps) && nat_lt t.c (length ps))) _ e in
-    let first = both (nat_lt t.a (length ps)) _ parts.0 in
-    let rest = both (nat_lt t.b (length ps)) (nat_lt t.c (length ps)) first.1 in
+    let parts = and_parts (nat_lt t.a (length ps) && (nat_lt t.b (length ps) && nat_lt t.c (length ps))) _ e in
+    let first = and_parts (nat_lt t.a (length ps)) _ parts.0 in
+    let rest = and_parts (nat_lt t.b (length ps)) (nat_lt t.c (length ps)) first.1 in
     record {
-      listed = record { a = less t.a (length ps) first.0; b = less t.b (length ps) rest.0; c = less t.c (length ps) rest.1 };
+      listed = record { a = nat_lt-tells t.a (length ps) first.0; b = nat_lt-tells t.b (length ps) rest.0; c = nat_lt-tells t.c (length ps) rest.1 };
       turned = (Decides-int_eq (turn (at ps t.a) (at ps t.b) (at ps t.c)) (pos 1)).0 parts.1;
     }
 
@@ -194,7 +182,7 @@ are_once (s ∷ ss) = not (list_any (same_segment s) ss) && are_once ss
 once-tested : (ss : List Segment) → are_once ss ≡ true → Once ss
 once-tested [] e = tt
 once-tested (s ∷ ss) e =
-    let parts = both (not (list_any (same_segment s) ss)) (are_once ss) e in
+    let parts = and_parts (not (list_any (same_segment s) ss)) (are_once ss) e in
     (λ among. untrue _ parts.0 (among-list_any s ss among), once-tested ss parts.1)
 
 abbrev pub are_matched : List Segment → List Segment → Bool
@@ -202,10 +190,10 @@ are_matched hull es = list_all (λ s. list_any (same_segment (back s)) es || lis
 
 pub matched-tested : (hull : List Segment) (ts : List Triple) → are_once (edges ts) ≡ true → are_matched hull (edges ts) ≡ true → IsMatched hull ts
 matched-tested hull ts once e =
-    let parts = both (list_all (λ s. list_any (same_segment (back s)) (edges ts) || list_any (same_segment s) hull) (edges ts)) _ e in
+    let parts = and_parts (list_all (λ s. list_any (same_segment (back s)) (edges ts) || list_any (same_segment s) hull) (edges ts)) _ e in
     record {
       once = once-tested (edges ts) once;
-      matched = λ s among. elim (either (list_any (same_segment (back s)) (edges ts)) (list_any (same_segment s) hull) (all-among (λ s. list_any (same_segment (back s)) (edges ts) || list_any (same_segment s) hull) (edges ts) parts.0 s among)) [
+      matched = λ s among. elim (or_cases (list_any (same_segment (back s)) (edges ts)) (list_any (same_segment s) hull) (all-among (λ s. list_any (same_segment (back s)) (edges ts) || list_any (same_segment s) hull) (edges ts) parts.0 s among)) [
         | inl inner ↦ inl (list_any-among (back s) (edges ts) inner)
         | inr outer ↦ inr (list_any-among s hull outer)
       ];

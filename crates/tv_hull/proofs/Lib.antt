@@ -7,3 +7,4 @@ pub mod Least
 pub mod Collinear
 pub mod Steps
 pub mod Rounds
+pub mod Pairs

@@ -2,8 +2,7 @@
 --
 -- IsFirst P i       == P holds of i, and of no lesser number
 -- IsFirstPair P i j == P holds of i and j, and of no pair that comes before them by its first, then its second number
--- NoneBelow P n     == P holds of no pair whose first number is below n
-use Rattle.std.specs.Prelude.{ℕ, ◌<◌, ◌≤◌}
+use Rattle.std.specs.Prelude.{ℕ, ◌≤◌}
 
 pub record IsFirst (P : ℕ → Type 0) (i : ℕ) : Type 0 where
   pub holds : P i
@@ -12,6 +11,3 @@ pub record IsFirst (P : ℕ → Type 0) (i : ℕ) : Type 0 where
 pub record IsFirstPair (P : ℕ → ℕ → Type 0) (i j : ℕ) : Type 0 where
   pub second : IsFirst (P i) j
   pub first : (k l : ℕ) → P k l → i ≤ k
-
-abbrev pub NoneBelow : (ℕ → ℕ → Type 0) → ℕ → Type 0
-NoneBelow P n = (k l : ℕ) → k < n → P k l → ⊥

@@ -13,7 +13,7 @@ use std::alloc::{AllocError, Global};
 use tv_lattice::excess::limits;
 use tv_lattice::fault::{FileFault, InputError};
 use tv_lattice::file::{FileData, RawFile};
-use tv_text::file::MOST_BYTES;
+use tv_spec_plane::limits::MOST_BYTES;
 
 /// The file that the bytes are in JSON, whatever their first byte is. They are refused where they are more than `MOST_BYTES`,
 /// else where they have no reading or their value is of another form, else by the first limit that the file passes. Want of

@@ -4,7 +4,7 @@ use crate::file::read_json;
 use std::alloc::Global;
 use std::test::Fail;
 use tv_lattice::fault::{Excess, FileFault, InputError};
-use tv_text::file::MOST_BYTES;
+use tv_spec_plane::limits::MOST_BYTES;
 
 const CONIFOLD: &str =
     "{\"tv\":1,\"points\":[[0,0],[1,0],[1,1],[0,1]],\"triangles\":[[0,1,2],[0,2,3]],\"heights\":[0,1,0,0]}";

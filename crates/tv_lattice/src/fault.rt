@@ -23,7 +23,7 @@ pub enum FileFault {
     TooLong,
     /// The first line, counted from 1, with which no file goes on; one past the last line where the file ends too early.
     Line(u32),
-    /// The first byte begins a text in JSON.
+    /// The first byte begins a text in JSON, and JSON has no reading of the bytes, or one that is no file.
     Json,
     /// The first limit that is passed.
     TooMany(Excess),

@@ -7,11 +7,11 @@ use tv_spec_plane::records::{RawPoint, Triple};
 /// Points, triangles and heights as a file gives them, each number of at most nine digits.
 #[derive(Drop, Debug)]
 pub struct RawFile {
-    /// The points, numbered from 0 in the order of their lines.
+    /// The points, numbered from 0 in the file's order.
     pub points: Vec<RawPoint>,
-    /// The triangles in the order of their lines, each by the numbers of its points; they may name points that are not there.
+    /// The triangles in the file's order, each by the numbers of its points; they may name points that are not there.
     pub triangles: Vec<Triple>,
-    /// The heights in the order of their line; there may be more or fewer than points.
+    /// The heights in the file's order; there may be more or fewer than points.
     pub heights: Vec<i64>,
 }
 

@@ -14,6 +14,7 @@ use Rattle.tv_spec_boxes.specs.Numbers.{fall_by, low_of, least, lowest, box_boun
 use Rattle.tv_laws_counts.specs.Ways.{ways_at, start_of, assignment_sign, assignment_coefficient}
 use Rattle.tv_laws_counts.specs.Laws.{BoxesWithin, StartsAbove, NoneBelowStart}
 use Rattle.tv_lemmas.proofs.Members.{all-onto, all-contains}
+use Rattle.tv_lemmas.proofs.Naturals.{as_natural-above}
 
 int_min-left : (x y : ℤ) → int_min x y ≤ℤ x
 int_min-left x y = grind (arith, ints)
@@ -52,10 +53,6 @@ starts_above w fixed d a among =
 pub lowest-none : (w : Web) (fixed : List Rows) (d : ℕ) → lowest w fixed d ≤ℤ pos 0
 unfolding lowest
 lowest-none w fixed d = least-none (low_of w fixed) (assignments w d)
-
-as_natural-above : (z : ℤ) → z ≤ℤ pos (as_natural z)
-as_natural-above (pos n) = omega (arith, ints)
-as_natural-above (negsuc n) = omega (arith, ints)
 
 -- in plain numbers
 within_bound : (i n costs overlaps low : ℤ) → low ≤ℤ pos 0 → low ≤ℤ (costs -ℤ overlaps) → i ≤ℤ n → ((i -ℤ costs) +ℤ overlaps) ≤ℤ pos (box_bound n low)

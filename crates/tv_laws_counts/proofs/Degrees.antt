@@ -21,6 +21,7 @@ use Rattle.tv_laws_counts.specs.Laws.{AssignmentsByDegree, AssignmentsListed}
 use Rattle.tv_lemmas.proofs.Lists.{filter-weaker}
 use Rattle.tv_lemmas.proofs.Members.{all-onto}
 use Rattle.tv_laws_counts.proofs.Choices.{degree_by, IsChoice, choices_are, choice_small, choices-within}
+use Rattle.tv_lemmas.proofs.Multiplied.{mul-middle}
 
 pub degree_of-plus : (hs u v : List ℤ) → degree_of hs (plus u v) ≡ degree_of hs u +ℤ degree_of hs v
 degree_of-plus [] u v = refl
@@ -28,15 +29,10 @@ degree_of-plus (h ∷ hs) [] v = omega (arith, ints)
 degree_of-plus (h ∷ hs) (x ∷ u) [] = omega (arith, ints)
 degree_of-plus (h ∷ hs) (x ∷ u) (y ∷ v) = omega (arith, ints, mul-add h x y, degree_of-plus hs u v)
 
-mul-exchange : (a b c : ℤ) → a *ℤ (b *ℤ c) ≡ b *ℤ (a *ℤ c)
-mul-exchange a b c =
-    let r = diff_of a in let s = diff_of b in let t = diff_of c in
-    rw (r.2, s.2, t.2) (simp diffs (diff-same _ _ _ _ (omega arith)))
-
 pub degree_of-times : (hs : List ℤ) (n : ℕ) (v : List ℤ) → degree_of hs (times n v) ≡ pos n *ℤ degree_of hs v
 degree_of-times [] n v = omega (arith, ints)
 degree_of-times (h ∷ hs) n [] = omega (arith, ints)
-degree_of-times (h ∷ hs) n (x ∷ v) = omega (arith, ints, mul-exchange h (pos n) x, degree_of-times hs n v, mul-add (pos n) (h *ℤ x) (degree_of hs v))
+degree_of-times (h ∷ hs) n (x ∷ v) = omega (arith, ints, mul-middle h (pos n) x, degree_of-times hs n v, mul-add (pos n) (h *ℤ x) (degree_of hs v))
 
 -- the degrees as natural numbers
 abbrev pub weights : Web → List CompactEdge → List ℕ

@@ -19,7 +19,8 @@ use Rattle.tv_spec_series.proofs.Sums.{coefficient_of-added, coefficient_of-adde
 use Rattle.tv_laws_counts.specs.Ways.{assignment_coefficient}
 use Rattle.tv_lemmas.proofs.Members.{all-append, all-onto}
 use Rattle.tv_laws_counts.proofs.Bounds.{starts_above}
-use Rattle.tv_laws_families.specs.Glued.{class_total, IsTermsOf, StartsAbove, IsGlued}
+use Rattle.tv_laws_families.specs.Glued.{class_total, StartsAbove, IsGlued}
+use Rattle.tv_laws_families.proofs.Addends.{IsTermsOf}
 use Rattle.tv_laws_families.proofs.Totals.{class_total-none, class_total-here, class_total-other}
 
 module _ {A : Type 0} (r : Operations A) (w : Web) (fixed : List Rows) (d : ℕ) (n : ℤ) where

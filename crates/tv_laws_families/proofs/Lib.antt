@@ -1,4 +1,5 @@
 pub mod Totals
+pub mod Addends
 pub mod Glued
 pub mod Full
 pub mod Wide

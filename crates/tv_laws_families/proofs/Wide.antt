@@ -19,7 +19,8 @@ use Rattle.tv_laws_counts.proofs.Degrees.{assignments_by_degree, assignments_lis
 use Rattle.tv_laws_counts.proofs.Crowds.{crowd_of_class}
 use Rattle.tv_lemmas.proofs.Members.{all-contains}
 use Rattle.tv_laws_families.proofs.Totals.{class_ways, class_ways_is, ways_on, class_ways-here, class_ways-front, class_total-size, coefficient-ways}
-use Rattle.tv_laws_families.specs.Glued.{class_total, IsTermsOf, IsGlued}
+use Rattle.tv_laws_families.specs.Glued.{class_total, IsGlued}
+use Rattle.tv_laws_families.proofs.Addends.{IsTermsOf}
 
 pub class_ways-crowd : (w : Web) (fixed : List Rows) (d : ℕ) (a : Assignment) (i n : ℤ) → IsGraded w → AllByRecursion IsDiagram fixed → Contains (assignments w d) a → i ≤ℤ n → class_ways w fixed (class_of w a) i (assignments w d) ≤ crowd w fixed d n (class_of w a)
 class_ways-crowd w fixed d a i n graded also among h =

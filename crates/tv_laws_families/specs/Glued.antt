@@ -2,7 +2,6 @@
 --
 -- of_class w v front    == the assignments of class v among those in front
 -- class_total w fixed v i front == the sum of their coefficients at i
--- IsTermsOf r w fixed n a t == t starts where the assignment starts, or beyond n, and has its coefficients through n, times one
 -- StartsAbove w fixed d n row == the row's series starts at `lowest` or above, or beyond n; so it is 0 below `lowest`
 -- IsGlued r w fixed d n front f == the heights are those of the web, the degrees go to d and the exponents to n, the rows
 --                          have the classes of the assignments in front, and as coefficients through n these sums, times one
@@ -12,23 +11,18 @@ use Rattle.std.specs.List.{AllByRecursion}
 use Rattle.tv_lemmas.specs.Sums.{total}
 use Rattle.tv_ring.specs.Operations.{Operations}
 use Rattle.tv_ring.specs.Sums.{whole_times}
-use Rattle.tv_laws_series.specs.Terms.{Terms}
 use Rattle.tv_spec_plane.specs.Web.{Web}
 use Rattle.tv_spec_boxes.specs.Assignments.{Rows, Assignment, class_of, same_vector}
 use Rattle.tv_spec_boxes.specs.Classes.{IsClass}
 use Rattle.tv_spec_boxes.specs.Numbers.{lowest}
-use Rattle.tv_spec_series.specs.Families.{Row, Family, classes, coefficient, coefficient_of}
-use Rattle.tv_laws_counts.specs.Ways.{start_of, assignment_coefficient}
+use Rattle.tv_spec_series.specs.Families.{Row, Family, classes, coefficient_of}
+use Rattle.tv_laws_counts.specs.Ways.{assignment_coefficient}
 
 abbrev pub of_class : Web → List ℤ → List Assignment → List Assignment
 of_class w v front = filter (λ a. same_vector (class_of w a) v) front
 
 unfoldable pub class_total : Web → List Rows → List ℤ → ℤ → List Assignment → ℤ
 class_total w fixed v i front = total (λ a. assignment_coefficient w fixed a i) (of_class w v front)
-
-pub record IsTermsOf {A : Type 0} (r : Operations A) (w : Web) (fixed : List Rows) (n : ℤ) (a : Assignment) (t : Terms A) : Type 0 where
-  pub low : t.low ≡ int_min (start_of w fixed a) (n +ℤ pos 1)
-  pub coefficients : (i : ℤ) → i ≤ℤ n → coefficient r t i ≡ whole_times r (assignment_coefficient w fixed a i)
 
 abbrev pub StartsAbove : {A : Type 0} → Web → List Rows → ℕ → ℤ → Row A → Type 0
 StartsAbove w fixed d n row = int_min (lowest w fixed d) (n +ℤ pos 1) ≤ℤ row.series.low

@@ -13,7 +13,7 @@ use Rattle.tv_spec_boxes.specs.Assignments.{zeros, plus}
 use Rattle.tv_spec_boxes.specs.Classes.{ClassesRise}
 use Rattle.tv_spec_boxes.proofs.OneCornerCrowd.{degree_zero}
 use Rattle.tv_spec_series.specs.Families.{Family, classes}
-use Rattle.tv_spec_series.proofs.Order.{int_lt-true}
+use Rattle.tv_spec_series.proofs.Order.{int_lt-true, int_lt_tells}
 use Rattle.tv_spec_katz.specs.Integers.{positive_classes, sums, is_within, all_sums, candidates}
 use Rattle.tv_spec_katz.specs.Relations.{IsPositiveClass, IsNormalized}
 use Rattle.tv_laws_integers.specs.Closed.{IsClassTo, IsClosedList}
@@ -21,9 +21,6 @@ use Rattle.tv_laws_integers.proofs.Sorted.{all_sorted, contains_sorted, sorted_r
 use Rattle.tv_laws_integers.proofs.SumsOfClasses.{IsSum, sums_are, sum_is, sum_of_one, sums_add}
 
 -- ---- the test of a degree
-
-less_tells : (a b : ℤ) → int_lt a b ≡ true → a <ℤ b
-less_tells a b h = grind (arith, ints)
 
 most_tells : (a b : ℤ) → int_le a b ≡ true → a ≤ℤ b
 most_tells a b h = grind (arith, ints)
@@ -34,7 +31,7 @@ most-true a b h = grind (arith, ints)
 within_tells : (D : ℕ) (hs v : List ℤ) → is_within D hs v ≡ true → (pos 0 <ℤ degree_of hs v) × (degree_of hs v ≤ℤ pos D)
 within_tells D hs v b =
     let parts = and_parts (int_lt (pos 0) (degree_of hs v)) (int_le (degree_of hs v) (pos D)) b in
-    (less_tells (pos 0) (degree_of hs v) parts.0, most_tells (degree_of hs v) (pos D) parts.1)
+    (int_lt_tells (pos 0) (degree_of hs v) parts.0, most_tells (degree_of hs v) (pos D) parts.1)
 
 within-true : (D : ℕ) (hs v : List ℤ) → pos 0 <ℤ degree_of hs v → degree_of hs v ≤ℤ pos D → is_within D hs v ≡ true
 within-true D hs v up most =
@@ -53,7 +50,7 @@ is_positive f v = int_lt (pos 0) (degree_of f.heights v)
 positive_one : (f : Family ℤ) (v : List ℤ) → HasPositive f v → is_positive f v ≡ true → IsPositiveClass f.heights v
 positive_one f v (inl none) b =
     let e = ap (degree_of f.heights) none ∙ degree_zero f.heights (length f.heights) in
-    let up = less_tells (pos 0) (degree_of f.heights v) b in
+    let up = int_lt_tells (pos 0) (degree_of f.heights v) b in
     absurd (omega (arith, ints))
 positive_one f v (inr positive) b = positive
 

@@ -29,6 +29,7 @@ use Rattle.tv_laws_integers.specs.Reading.{AgreesThrough}
 use Rattle.tv_laws_integers.proofs.Later.{positives}
 use Rattle.tv_laws_integers.proofs.Genera.{IsPast, down}
 use Rattle.tv_laws_integers.proofs.Depth.{below_series, genera_within}
+use Rattle.tv_lemmas.proofs.Naturals.{as_natural-is}
 
 -- ---- where the classes come from
 
@@ -77,12 +78,8 @@ pub record AreReadOf (D : ℕ) (f : Family ℤ) (vs : List (List ℤ)) (is more 
   pub agrees : AllByRecursion (AgreesThrough (pos 1) f more) vs
   pub same : (u : List ℤ) (n : ℤ) → AllByRecursion (IsBefore f.heights u) vs → katz f.heights more u n ≡ katz f.heights is u n
 
-pub natural-is : (z : ℤ) → pos 0 ≤ℤ z → z ≡ pos (as_natural z)
-natural-is (pos n) h = refl
-natural-is (negsuc n) h = absurd (omega (arith, ints))
-
 pub one-less : (n : ℤ) → n ≤ℤ pos 1 → pos 1 -ℤ pos (as_natural (pos 1 -ℤ n)) ≡ n
-one-less n h = let e = natural-is (pos 1 -ℤ n) (omega (arith, ints)) in omega (arith, ints)
+one-less n h = let e = as_natural-is (pos 1 -ℤ n) (omega (arith, ints)) in omega (arith, ints)
 
 -- w is a slope for genera of at most w + 1
 slope-by : (w d : ℕ) → 1 ≤ d → w ≤ w * d
@@ -91,7 +88,7 @@ slope-by w d h = let more : w * 1 ≤ w * d = mul-le w 1 w d (omega arith) h in 
 within_slope : (hs : List ℤ) (w : ℕ) (i : Integer) → i.genus ≤ suc w → IsPositive hs i → IsWithinSlope hs w i
 within_slope hs w i h positive =
     let d = as_natural (degree_of hs i.class) in
-    let degree = natural-is (degree_of hs i.class) (omega (arith, ints)) in
+    let degree = as_natural-is (degree_of hs i.class) (omega (arith, ints)) in
     let slope = slope-by w d (omega (arith, ints)) in
     let product : pos w *ℤ degree_of hs i.class ≡ pos (w * d) = ap (λ z. pos w *ℤ z) degree in
     record { positive = positive; slope = omega (arith, ints) }
@@ -104,7 +101,7 @@ module _ (D : ℕ) (f : Family ℤ) where
       let w = depth f v is in
       let d = as_natural (degree_of f.heights v) in
       let up = class.positive.degree in
-      let degree = natural-is (degree_of f.heights v) (omega (arith, ints)) in
+      let degree = as_natural-is (degree_of f.heights v) (omega (arith, ints)) in
       let product : pos w *ℤ degree_of f.heights v ≡ pos (d * w) = ap (λ z. pos w *ℤ z) degree ∙ ap pos (mul_comm w d) in
       let once : w ≤ d * w = rw (mul_comm d w) (slope-by w d (omega (arith, ints))) in
       let genera = all-both (λ i. i.genus ≤ suc (genus_depth is)) (IsPositive f.heights) (IsWithinSlope f.heights w)

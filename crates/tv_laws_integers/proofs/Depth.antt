@@ -15,6 +15,7 @@ use Rattle.tv_laws_series.proofs.NormalForm.{bool_cases, at-nil, at-first, at-ne
 use Rattle.tv_spec_series.specs.Families.{Row, Family, coefficient, coefficient_of, series_coefficient, find}
 use Rattle.tv_spec_katz.specs.Katz.{Integer}
 use Rattle.tv_spec_katz.specs.Integers.{depth_from, series_depth, genus_depth}
+use Rattle.tv_lemmas.proofs.Naturals.{as_natural-above}
 
 -- after a first coefficient 0 the series is that of the others
 after_nought : (x : ℤ) (xs : List ℤ) (low n : ℤ) → x ≡ pos 0
@@ -33,17 +34,13 @@ after_nought x xs low n e = by_lt_z n low
     ∙ (ap (at wholes (x ∷ xs)) next
     ∙ (at-next wholes x xs (above (low -ℤ negsuc 0) n) ∙ sym (coefficient_at wholes (terms (low -ℤ negsuc 0) xs) n later)))))
 
-natural-above : (z : ℤ) → z ≤ℤ pos (as_natural z)
-natural-above (pos n) = omega (arith, ints)
-natural-above (negsuc n) = omega (arith, ints)
-
 below_depth : (xs : List ℤ) (low n : ℤ) → n <ℤ neg_ℤ (pos (depth_from xs low)) → coefficient wholes (terms low xs) n ≡ pos 0
 below_depth [] low n h = by_lt_z n low
     (λ below. coefficient_below wholes (terms low []) n below)
     (λ from_low. coefficient_at wholes (terms low []) n from_low ∙ at-nil wholes (above low n))
 below_depth (x ∷ xs) low n h = bool_cases (int_eq x (pos 0))
     (λ b. after_nought x xs low n ((Decides-int_eq x (pos 0)).0 b) ∙ below_depth xs (low -ℤ negsuc 0) n (rw b at h))
-    (λ b. let least = natural-above (pos 0 -ℤ low) in let deep : n <ℤ neg_ℤ (pos (as_natural (pos 0 -ℤ low))) = rw b at h in
+    (λ b. let least = as_natural-above (pos 0 -ℤ low) in let deep : n <ℤ neg_ℤ (pos (as_natural (pos 0 -ℤ low))) = rw b at h in
     coefficient_below wholes (terms low (x ∷ xs)) n (omega (arith, ints)))
 
 pub below_series : (f : Family ℤ) (v : List ℤ) (n : ℤ) → n <ℤ neg_ℤ (pos (series_depth (find v f.rows)))

@@ -22,8 +22,8 @@ use Rattle.tv_laws_katz.proofs.FurtherInteger.{new_integer, unchanged}
 use Rattle.tv_laws_katz.proofs.LargerBound.{vanishes_by_slope}
 use Rattle.tv_laws_integers.specs.Reading.{BeginsAbove}
 use Rattle.tv_laws_integers.proofs.Later.{earlier_place, positives}
-use Rattle.tv_laws_integers.proofs.Classes.{natural-is}
 use Rattle.tv_laws_integers.proofs.Existence.{each_integer, own_place}
+use Rattle.tv_lemmas.proofs.Naturals.{as_natural-is}
 
 -- ---- the integers are within the slope of the series
 
@@ -89,7 +89,7 @@ rounded_up-least a d up = let turned = mul_comm (rounded_up a d) d in omega arit
 
 module _ (hs : List ℤ) (c : ℕ) (i : Integer) (positive : IsPositive hs i) where
   degree : degree_of hs i.class ≡ pos (as_natural (degree_of hs i.class))
-  degree = natural-is (degree_of hs i.class) (omega (arith, ints))
+  degree = as_natural-is (degree_of hs i.class) (omega (arith, ints))
 
   product : pos c *ℤ degree_of hs i.class ≡ pos (c * as_natural (degree_of hs i.class))
   product = ap (λ z. pos c *ℤ z) degree

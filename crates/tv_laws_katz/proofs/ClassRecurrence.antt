@@ -36,13 +36,14 @@ use Rattle.tv_laws_katz.proofs.Elsewhere.{degree-difference}
 use Rattle.tv_laws_katz.proofs.IntegerLogs.{multiple_terms, scale_of, integer-logs}
 use Rattle.tv_laws_katz.proofs.LargerBound.{factors-heavy, positive-all, product-katz}
 use Rattle.tv_laws_katz.proofs.Multiples.{place-multiple, weight-left}
-use Rattle.tv_laws_katz.proofs.Multiplied.{mul-middle, product-pairs}
+use Rattle.tv_lemmas.proofs.Multiplied.{mul-middle, product-pairs}
 use Rattle.tv_laws_katz.proofs.Powers.{power_sign-split}
 use Rattle.tv_laws_katz.proofs.Outside.{below-weight}
 use Rattle.tv_laws_katz.proofs.ProductRecurrence.{factor_recurrence, cancelled}
 use Rattle.tv_laws_katz.proofs.TermSizes.{factors-rise}
 use Rattle.tv_laws_katz.proofs.Totals.{spread, at-most-or, total-pick, total-sum_below, total-swap, total-scale, when-off, int_eq-apart}
-use Rattle.tv_laws_katz.proofs.Units.{product-below, natural-most, natural-is}
+use Rattle.tv_laws_katz.proofs.Units.{product-below, natural-most}
+use Rattle.tv_lemmas.proofs.Naturals.{as_natural-is}
 
 heavy-term : (hs : List ℤ) (w g T : ℕ) (i : Integer) → IsWithinSlope hs w i → i.genus ≡ g → (j : ℕ) → j < s_terms g T →
     pos 0 ≤ℤ weight w (place hs i.class (s_exponent g j))
@@ -95,7 +96,7 @@ module _ (hs : List ℤ) (w T : ℕ) (is : List Integer) (v : List ℤ) (n : ℤ
       let x = place hs i.class m in
       let heavy = heavy-term hs w i.genus T i within refl j h in
       let r = as_natural (pos (suc k) *ℤ weight w x) in
-      let is-r : pos (suc k) *ℤ weight w x ≡ pos r = natural-is (pos (suc k) *ℤ weight w x) (mul-nonneg-nonneg (pos (suc k)) (weight w x) (omega (arith, ints)) heavy) in (
+      let is-r : pos (suc k) *ℤ weight w x ≡ pos r = as_natural-is (pos (suc k) *ℤ weight w x) (mul-nonneg-nonneg (pos (suc k)) (weight w x) (omega (arith, ints)) heavy) in (
         r,
         omega (arith, ints, from-lowest hs w (suc k) i.class m, is-r),
         at-most-or T r (left (times (suc k) i.class) (pos (suc k) *ℤ m) ≡ pos 0) (λ more.

@@ -15,7 +15,7 @@ use Rattle.std.proofs.lemmas.Int.{ints}
 use Rattle.tv_lemmas.proofs.Integers.{mul-sub}
 use Rattle.tv_lemmas.proofs.Signs.{mul-nonneg-nonneg}
 use Rattle.tv_spec_katz.specs.Places.{Place, class_difference, difference, difference_by}
-use Rattle.tv_laws_katz.proofs.Multiplied.{suc-times}
+use Rattle.tv_lemmas.proofs.Multiplied.{suc-times}
 use Rattle.tv_laws_katz.specs.Weights.{weight}
 
 place_by : {d e : ℤ} {u v : List ℤ} {m n : ℤ} → d ≡ e → u ≡ v → m ≡ n →

@@ -19,7 +19,7 @@ use Rattle.tv_spec_katz.specs.Katz.{Integer, factors_by, factors, factor_bound, 
 use Rattle.tv_laws_katz.specs.Further.{IsPositive}
 use Rattle.tv_laws_katz.specs.Weights.{IsSumClosed, UnitBelowOne, VanishesElsewhere}
 use Rattle.tv_laws_katz.proofs.FurtherInteger.{IsFactorOf, factors-are}
-use Rattle.tv_laws_katz.proofs.Multiplied.{one-mul}
+use Rattle.tv_lemmas.proofs.Multiplied.{one-mul}
 use Rattle.tv_laws_katz.proofs.Units.{unit-none, product-low}
 use Rattle.tv_laws_katz.proofs.Outside.{IsClosed, outside}
 

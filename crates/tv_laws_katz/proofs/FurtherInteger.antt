@@ -19,7 +19,7 @@ use Rattle.tv_spec_katz.specs.Katz.{Integer, factor_at, genus_zero, higher_below
 use Rattle.tv_laws_katz.specs.Further.{IsPositive, own_exponent, NewInteger, IsEarlier, Unchanged}
 use Rattle.tv_laws_katz.proofs.LargerBound.{larger_factors}
 use Rattle.tv_laws_katz.proofs.Leading.{lead, lead-none, IsHigh, first_order}
-use Rattle.tv_laws_katz.proofs.Multiplied.{one-mul, mul-one}
+use Rattle.tv_lemmas.proofs.Multiplied.{one-mul, mul-one}
 use Rattle.tv_laws_katz.proofs.Powers.{power_at-one, twice_signed, power_sign-same, power_sign-next, power_sign-square, choose-whole}
 use Rattle.tv_laws_katz.proofs.Units.{IsUnit, unit-one, unit-none}
 

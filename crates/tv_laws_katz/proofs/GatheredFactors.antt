@@ -34,8 +34,9 @@ use Rattle.tv_laws_katz.proofs.Differences.{difference_by-lower, weight-differen
 use Rattle.tv_laws_katz.proofs.LargerBound.{less-weight, factors-heavy}
 use Rattle.tv_laws_katz.proofs.Outside.{below-weight}
 use Rattle.tv_laws_katz.proofs.ProductRecurrence.{factor_recurrence}
-use Rattle.tv_laws_katz.proofs.Units.{natural-is, product-below}
+use Rattle.tv_laws_katz.proofs.Units.{product-below}
 use Rattle.tv_lemmas.proofs.Integers.{diff_of, diffs, diff-same}
+use Rattle.tv_lemmas.proofs.Naturals.{as_natural-is}
 
 pub record IsUpTo (w T : ℕ) (d : ℤ) (K : Place → ℤ) : Type 0 where
   pub high : (x : Place) → pos 1 ≤ℤ x.degree → d <ℤ x.degree → K x ≡ pos 0
@@ -54,9 +55,9 @@ gather-one hs w T K c p Bs f upto once is =
     let low = begins_at hs w f.at.class in
     let r = as_natural (weight w f.at) in
     let same = ap (λ (x : Place). x.degree) is.graded in
-    let place-is : f.at.exponent ≡ low +ℤ pos r = omega (arith, ints, natural-is (weight w f.at) is.heavy, ap (λ z. pos w *ℤ z) same) in
+    let place-is : f.at.exponent ≡ low +ℤ pos r = omega (arith, ints, as_natural-is (weight w f.at) is.heavy, ap (λ z. pos w *ℤ z) same) in
     let value : F f.at.exponent ≡ K f.at = ap K (sym is.graded) in
-    let far : (r ≤ T) ⊎ (F f.at.exponent ≡ pos 0) = at-most-or T r (F f.at.exponent ≡ pos 0) (λ more. value ∙ upto.beyond f.at is.rising (omega (arith, ints, natural-is (weight w f.at) is.heavy))) in
+    let far : (r ≤ T) ⊎ (F f.at.exponent ≡ pos 0) = at-most-or T r (F f.at.exponent ≡ pos 0) (λ more. value ∙ upto.beyond f.at is.rising (omega (arith, ints, as_natural-is (weight w f.at) is.heavy))) in
     let here : at_class hs w T K f.at.exponent c f.at.class ≡ K f.at *ℤ c = pick-or_none F c f.at.exponent low r T place-is far ∙ ap (λ z. z *ℤ c) value in
     sym (total-pick same_vector same_vector_tells same_vector-same (at_class hs w T K f.at.exponent c) f.at.class Bs once (listed-or is.listed here) ∙ here)
   where

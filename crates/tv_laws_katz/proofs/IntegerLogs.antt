@@ -14,7 +14,7 @@ use Rattle.tv_spec_katz.specs.Katz.{Integer, factor_at, genus_zero, higher_below
 use Rattle.tv_laws_katz.specs.Logarithm.{s_terms, s_exponent, s_coefficient}
 use Rattle.tv_laws_katz.specs.Recurrence.{log_of}
 use Rattle.tv_laws_katz.proofs.BelowSums.{sum_below-same, sum_below-scale, sum_below-swap}
-use Rattle.tv_laws_katz.proofs.Multiplied.{mul-mul, mul-neg}
+use Rattle.tv_lemmas.proofs.Multiplied.{mul-mul, mul-neg}
 use Rattle.tv_laws_katz.proofs.Powers.{power_sign-next}
 
 -- the multiples of a place, taken off

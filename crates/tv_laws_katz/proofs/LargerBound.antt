@@ -26,7 +26,7 @@ use Rattle.tv_laws_katz.specs.Sizes.{AbsoluteIsProduct}
 use Rattle.tv_laws_katz.specs.Further.{IsPositive}
 use Rattle.tv_laws_katz.specs.Weights.{weight, IsHeavy, IsWithinSlope, KatzIsProduct, LargerFactors, VanishesBySlope}
 use Rattle.tv_laws_katz.proofs.Differences.{difference_by-weight}
-use Rattle.tv_laws_katz.proofs.Multiplied.{suc-times}
+use Rattle.tv_lemmas.proofs.Multiplied.{suc-times}
 use Rattle.tv_laws_katz.proofs.Outside.{below-weight}
 use Rattle.tv_laws_katz.proofs.Units.{times-same, times-first}
 

@@ -14,7 +14,7 @@ use Rattle.tv_spec_katz.specs.Binomials.{power_at, sum_below}
 use Rattle.tv_spec_katz.specs.Places.{Place, difference, difference_by, unit}
 use Rattle.tv_spec_katz.specs.Product.{Factor, times, product}
 use Rattle.tv_laws_katz.proofs.BelowSums.{sum_below-longer}
-use Rattle.tv_laws_katz.proofs.Multiplied.{one-mul}
+use Rattle.tv_lemmas.proofs.Multiplied.{one-mul}
 use Rattle.tv_laws_katz.proofs.Powers.{power_at-zero}
 use Rattle.tv_laws_katz.proofs.Units.{IsUnit, unit-none, product-low, product-below, product-longer}
 use Rattle.tv_laws_katz.proofs.Differences.{difference_by-degree}

@@ -11,7 +11,6 @@ pub mod Leading
 pub mod Logarithms
 mod LogarithmValues
 pub mod Multiples
-pub mod Multiplied
 pub mod Outside
 pub mod Powers
 pub mod ProductRecurrence

@@ -19,7 +19,7 @@ use Rattle.tv_laws_katz.specs.Weights.{IsRising}
 use Rattle.tv_laws_katz.specs.Recurrence.{log_of}
 use Rattle.tv_laws_katz.proofs.BelowSums.{sum_below-same, sum_below-none, sum_below-add, sum_below-scale, sum_below-front, sum_below-last}
 use Rattle.tv_laws_katz.proofs.Differences.{difference_by-last, difference_by-degree, difference_by-none, difference_by-lower, difference_by-used}
-use Rattle.tv_laws_katz.proofs.Multiplied.{mul-mul}
+use Rattle.tv_lemmas.proofs.Multiplied.{mul-mul}
 use Rattle.tv_laws_katz.proofs.Powers.{power_at-next}
 use Rattle.tv_laws_katz.proofs.Units.{left-below}
 

@@ -15,7 +15,7 @@ use Rattle.tv_spec_katz.specs.Places.{Place, place, class_difference, difference
 use Rattle.tv_laws_katz.specs.Weights.{weight}
 use Rattle.tv_laws_katz.proofs.Differences.{place-same, difference_by-degree, difference_by-exponent}
 use Rattle.tv_laws_katz.proofs.Elsewhere.{degree-difference}
-use Rattle.tv_laws_katz.proofs.Multiplied.{suc-times}
+use Rattle.tv_lemmas.proofs.Multiplied.{suc-times}
 
 none-taken : (u v : List ℤ) → class_difference u (times 0 v) ≡ u
 none-taken [] v = refl

@@ -12,7 +12,7 @@ use Rattle.std.proofs.Common.{refl, ap, arith, ◌∙◌, sym, inl, inr}
 use Rattle.std.proofs.lemmas.Int.{ints, unsigned_abs-mul}
 use Rattle.std.proofs.lemmas.Bool.Decides.{nat_tests}
 use Rattle.tv_lemmas.proofs.Integers.{sub-mul, neg-mul}
-use Rattle.tv_laws_katz.proofs.Multiplied.{mul-mul, mul-middle, mul-neg, neg-pull, one-mul}
+use Rattle.tv_lemmas.proofs.Multiplied.{mul-mul, mul-middle, mul-neg, neg-pull, one-mul}
 use Rattle.tv_spec_katz.specs.Binomials.{choose, power_sign, binomial, power_at}
 
 pub choose-step : (n k : ℕ) → suc k * choose n (suc k) + k * choose n k ≡ n * choose n k

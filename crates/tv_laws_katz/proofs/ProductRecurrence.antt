@@ -19,7 +19,7 @@ use Rattle.tv_laws_katz.specs.Recurrence.{log_of, logs, FactorRecurrence, Factor
 use Rattle.tv_laws_katz.proofs.BelowSums.{sum_below-same, sum_below-none, sum_below-add, sum_below-scale, sum_below-swap}
 use Rattle.tv_laws_katz.proofs.Differences.{difference_by-swap, difference_by-lower}
 use Rattle.tv_laws_katz.proofs.Logarithms.{theta, one_factor}
-use Rattle.tv_laws_katz.proofs.Multiplied.{mul-middle}
+use Rattle.tv_lemmas.proofs.Multiplied.{mul-middle}
 use Rattle.tv_laws_katz.proofs.Units.{unit-none, times-same, product-below, product-longer}
 
 pub times-add : (D : ℕ) (f : Factor) (P Q : Place → ℤ) (p : Place) →

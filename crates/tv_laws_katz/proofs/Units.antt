@@ -5,7 +5,7 @@
 -- product-low       at degrees of at most 0 a product is the unit; product-below, at degrees below 0 it is 0
 -- times-same        a factor times series that agree at the places that count
 -- product-longer    powers of X beyond the degree change nothing
--- natural-most      a whole number up to n is at most n as a natural one; natural-is, from 0 on it is that one
+-- natural-most      a whole number up to n is at most n as a natural one; as_natural-is, from 0 on it is that one
 use Rattle.std.specs.Prelude.{◌≡◌, ℕ, zero, suc, ◌≤◌, ◌<◌, ℤ, pos, negsuc, ◌*ℤ◌, ◌≤ℤ◌, ◌<ℤ◌, List, [], ◌∷◌, Bool, true, false, ◌&&◌, if◌then◌else◌}
 use Rattle.std.proofs.Common.{refl, ap, arith, ◌∙◌, sym}
 use Rattle.std.proofs.Math.IntN.{*ℤ-zero}
@@ -18,8 +18,9 @@ use Rattle.tv_spec_katz.specs.Product.{Factor, times, product}
 use Rattle.tv_laws_katz.specs.Weights.{IsRising}
 use Rattle.tv_laws_katz.proofs.BelowSums.{sum_below-same, sum_below-longer, sum_below-first}
 use Rattle.tv_laws_katz.proofs.Differences.{difference_by-degree, taken-below}
-use Rattle.tv_laws_katz.proofs.Multiplied.{one-mul}
+use Rattle.tv_lemmas.proofs.Multiplied.{one-mul}
 use Rattle.tv_laws_katz.proofs.Powers.{power_at-zero}
+use Rattle.tv_lemmas.proofs.Naturals.{as_natural-none, as_natural-is}
 
 pub record IsUnit (p : Place) : Type 0 where
   pub degree : p.degree ≡ pos 0
@@ -56,16 +57,11 @@ times-first most f P p none =
     sum_below-first (λ k. power_at f.power k *ℤ P (difference_by k p f.at)) most (λ k h. ap (λ z. power_at f.power (suc k) *ℤ z) (none k h) ∙ *ℤ-zero (power_at f.power (suc k))) ∙
     (ap (λ z. z *ℤ P p) (power_at-zero f.power) ∙ one-mul (P p))
 
-natural-low : (z : ℤ) → z ≤ℤ pos 0 → as_natural z ≡ 0
-natural-low (pos zero) h = refl
-natural-low (pos (suc n)) h = absurd (omega (arith, ints))
-natural-low (negsuc n) h = refl
-
 pub product-low : (fs : List Factor) (p : Place) → p.degree ≤ℤ pos 0 → product fs p ≡ unit p
 unfolding product
 product-low [] p low = refl
 product-low (f ∷ fs) p low =
-    ap (λ n. times n f (product fs) p) (natural-low p.degree low) ∙ (times-first 0 f (product fs) p (λ k h. absurd (omega arith)) ∙ product-low fs p low)
+    ap (λ n. times n f (product fs) p) (as_natural-none p.degree low) ∙ (times-first 0 f (product fs) p (λ k h. absurd (omega arith)) ∙ product-low fs p low)
 
 pub product-below : (fs : List Factor) (p : Place) → p.degree <ℤ pos 0 → product fs p ≡ pos 0
 product-below fs p below = product-low fs p (omega (arith, ints)) ∙ unit-none p (λ is. absurd (omega (arith, ints, is.degree)))
@@ -77,10 +73,6 @@ natural-at (negsuc n) k h = omega (arith, ints)
 pub natural-most : (z : ℤ) (n : ℕ) → z ≤ℤ pos n → as_natural z ≤ n
 natural-most (pos m) n h = omega (arith, ints)
 natural-most (negsuc m) n h = omega (arith, ints)
-
-pub natural-is : (z : ℤ) → pos 0 ≤ℤ z → z ≡ pos (as_natural z)
-natural-is (pos n) h = refl
-natural-is (negsuc n) h = absurd (omega (arith, ints))
 
 pub left-below : (k : ℕ) (p x : Place) → pos 1 ≤ℤ x.degree → p.degree <ℤ pos k → (difference_by k p x).degree <ℤ pos 0
 left-below k p x rising less = omega (arith, ints, difference_by-degree k p x, taken-below k p.degree x.degree rising less)

@@ -19,9 +19,10 @@ use Rattle.tv_spec_boxes.specs.Configurations.{Configuration, configuration, ext
 use Rattle.tv_laws_counts.proofs.Choices.{own}
 use Rattle.tv_laws_orders.specs.Orders.{first_differs, assignment_before, sets_before, configuration_before}
 use Rattle.tv_laws_orders.specs.Laws.{AssignmentsInOrder, AssignmentsOfInOrder, ConfigurationsInOrder}
-use Rattle.tv_laws_orders.proofs.Ordered.{wrong, Ordered, in_order, pointwise-own, ordered-range, ordered-ahead}
+use Rattle.tv_laws_orders.proofs.Ordered.{wrong, Ordered, in_order, ordered-range, ordered-ahead}
 use Rattle.tv_laws_orders.proofs.Diagrams.{diagrams-size, diagrams-ordered}
 use Rattle.tv_laws_orders.proofs.Sets.{extras-length, extras-ordered}
+use Rattle.tv_lemmas.proofs.Lists.{pointwise-own}
 
 choices-ordered : (gs : List ℕ) (d : ℕ) → Ordered assignment_before (choices gs d)
 unfolding choices IsDistinct

@@ -5,7 +5,6 @@
 -- in_order           such a list is in order: each member comes before every later one
 -- of_one_number      what all have one number may be ordered by that number first
 -- ordered-range      the numbers from k on
--- pointwise-own      a list is equal to itself, place by place
 -- behind             one more member in front of both
 -- ordered-ahead      each of some lists behind each of some heads, by a number of the heads
 use Rattle.std.specs.Prelude.{◌≡◌, ℕ, zero, suc, ◌+◌, ◌<◌, Bool, true, false, not, ◌&&◌, nat_eq, nat_lt, List, [], ◌∷◌, map}
@@ -18,6 +17,7 @@ use Rattle.std.proofs.lemmas.List.Kept.{AllPairs-cons}
 use Rattle.tv_lemmas.proofs.Members.{all-flat_map, all-onto, all-both, all-any}
 use Rattle.tv_lemmas.proofs.Distinct.{distinct-map, distinct-flat_map, ahead}
 use Rattle.tv_laws_orders.specs.Orders.{by_number, first_differs, IsInOrder}
+use Rattle.tv_lemmas.proofs.Lists.{pointwise-own}
 
 abbrev pub wrong : {A : Type 0} → (A → A → Bool) → A → A → Bool
 wrong before x y = not (before x y)
@@ -57,10 +57,6 @@ pub ordered-range : (k n : ℕ) → Ordered nat_lt (range_with_len k n)
 unfolding IsDistinct
 ordered-range k zero = tt
 ordered-range k (suc n) = (later k (k + 1) n (omega arith), ordered-range (k + 1) n)
-
-pub pointwise-own : {A : Type 0} (same : A → A → Bool) → ((x : A) → same x x ≡ true) → (xs : List A) → pointwise same xs xs ≡ true
-pointwise-own same own [] = refl
-pointwise-own same own (x ∷ xs) = and_from (same x x) (pointwise same xs xs) (own x) (pointwise-own same own xs)
 
 -- what P says is true of the first member
 abbrev FirstIs : {A : Type 0} → (A → Type 0) → List A → Type 0

@@ -14,6 +14,7 @@ use Rattle.tv_cells.specs.Cells.{x_from, y_from}
 use Rattle.tv_cells.specs.Extras.{extent, AreDiagrams}
 use Rattle.tv_spec_slices.specs.Slices.{base_at, is_endless}
 use Rattle.tv_spec_slices.specs.Paths.{full_of}
+use Rattle.tv_lemmas.proofs.Naturals.{first-max, second-max, third-max}
 
 row-further : (rows : List ℕ) (d k : ℕ) → IsDiagram rows → slice_index rows (suc d + k) ≤ slice_index rows (d + k)
 row-further rows d k is = let e : suc d + k ≡ suc (d + k) = omega arith in rw e (rows-descend rows (d + k) is)
@@ -42,15 +43,6 @@ row-none rows n d k l m = row-past rows (d + k) (far (length rows) (slice_index 
   where
     far : (a b : ℕ) → max a b ≤ n → a ≤ d + k
     far a b h = omega arith
-
-first-max : (a b c : ℕ) → a ≤ max a (max b c)
-first-max a b c = omega arith
-
-pub second-max : (a b c : ℕ) → b ≤ max a (max b c)
-second-max a b c = omega arith
-
-pub third-max : (a b c : ℕ) → c ≤ max a (max b c)
-third-max a b c = omega arith
 
 pub base-past : (legs : Legs) (t : ℤ) (d : ℕ) → extent legs ≤ d → base_at legs t d ≡ 0
 base-past legs t d l =

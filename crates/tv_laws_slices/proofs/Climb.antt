@@ -8,7 +8,7 @@
 -- ways-last_one    so none stands at the last diagonal
 use Rattle.std.specs.Prelude.{◌≡◌, ◌⊎◌, ℕ, zero, suc, ◌+◌, ◌-◌, ◌*◌, ◌<◌, ◌≤◌, ℤ, pos, ◌+ℤ◌, ◌-ℤ◌, ◌≤ℤ◌, neg_ℤ, unsigned_abs, max, Bool, true, false, cond, ◌&&◌, nat_eq, nat_lt, nat_le, List, [], ◌∷◌, filter, length, slice_index}
 use Rattle.std.specs.List.{AllByRecursion}
-use Rattle.std.proofs.Common.{refl, sym, ap, subst, ◌∙◌, arith, inl, inr}
+use Rattle.std.proofs.Common.{refl, sym, ap, subst, ◌∙◌, arith, inl, inr, add-zero}
 use Rattle.std.proofs.lemmas.Int.{ints}
 use Rattle.std.proofs.lemmas.Bool.{cases_lt, cond-true, cond-false, and_parts, and_from, or_cases, le-leb, leb-true, eqb-true, false_from_ne_true}
 use Rattle.tv_lemmas.specs.Sums.{sum_of}
@@ -140,9 +140,6 @@ end-far legs d m y are l = false_from_ne_true (has legs.along_z (d + m) y) (λ h
     inside : (a b c : ℕ) → max a (max b c) ≤ m → d + m < c → ⊥
     inside a b c l h = omega arith
 
-own_place : (d : ℕ) → d + 0 ≡ d
-own_place d = omega arith
-
 tall-inside : (legs : Legs) (s : Shape) (d : ℕ) → IsTall legs s d → d < reach s
 tall-inside legs s d tall = elim (cases_lt d (reach s)) [
   | inl l ↦ l
@@ -153,7 +150,7 @@ tall-extra : (legs : Legs) (m : ℕ) (s : Shape) (d : ℕ) → AreDiagrams legs 
 tall-extra legs m s d are l tall =
     some (over legs (pos m) (at s d) d) (extras_of legs (pos m) s) (at s d) (base legs (d + m) (d + 0)) (slice_index legs.along_x d)
     (cond-false (has legs.along_z (d + m) (d + 0)) 0 (at s d - base legs (d + m) (d + 0)) (end-far legs d m (d + 0) are l))
-    (base-far legs d m (d + 0) l ∙ ap (slice_index legs.along_x) (own_place d)) tall
+    (base-far legs d m (d + 0) l ∙ ap (slice_index legs.along_x) (add-zero d)) tall
     (sum_of-term (λ e. over legs (pos m) (at s e) e) 0 (reach s) d (omega arith) (within d (reach s) (tall-inside legs s d tall)))
   where
     within : (d r : ℕ) → d < r → d < 0 + r
@@ -242,7 +239,7 @@ low-far legs k s c are l h d = elim (cases_lt (slice_index legs.along_x d) (at s
     none m = omega arith
 
 no-extras : (legs : Legs) (m : ℕ) (s : Shape) → extent legs ≤ m → ((d : ℕ) → at s d ≤ slice_index legs.along_x d) → extras_of legs (pos m) s ≡ 0
-no-extras legs m s l low = sum_of-zeros (λ d. over legs (pos m) (at s d) d) 0 (reach s) (λ d p q. none (has legs.along_z (d + m) (d + 0)) (at s d) (base legs (d + m) (d + 0)) (slice_index legs.along_x d) (base-far legs d m (d + 0) l ∙ ap (slice_index legs.along_x) (own_place d)) (low d))
+no-extras legs m s l low = sum_of-zeros (λ d. over legs (pos m) (at s d) d) 0 (reach s) (λ d p q. none (has legs.along_z (d + m) (d + 0)) (at s d) (base legs (d + m) (d + 0)) (slice_index legs.along_x d) (base-far legs d m (d + 0) l ∙ ap (slice_index legs.along_x) (add-zero d)) (low d))
   where
     none : (q : Bool) (h b a : ℕ) → b ≡ a → h ≤ a → cond q 0 (h - b) ≡ 0
     none true h b a e l = refl

@@ -31,6 +31,7 @@ use Rattle.tv_laws_slices.proofs.Chains.{paths-are-chains}
 use Rattle.tv_laws_slices.proofs.Closed.{paths-are-extras}
 use Rattle.tv_laws_slices.proofs.Cut.{extras-are-paths}
 use Rattle.tv_laws_slices.proofs.Told.{path-told}
+use Rattle.tv_lemmas.proofs.Lists.{pointwise-own}
 
 -- ---- lists with the same members
 
@@ -83,10 +84,6 @@ distinct-values same e P f apart (x ∷ xs) all once = (
       (all-both P (λ y. same x y ≡ false) (λ y. e (f x) (f y) ≡ false) (λ y is differ. apart x y all.0 is differ) xs all.1 once.0),
   distinct-values same e P f apart xs all.1 once.1,
 )
-
-pointwise-own : {A : Type 0} (same : A → A → Bool) → ((x : A) → same x x ≡ true) → (xs : List A) → pointwise same xs xs ≡ true
-pointwise-own same own [] = refl
-pointwise-own same own (x ∷ xs) = and_from (same x x) (pointwise same xs xs) (own x) (pointwise-own same own xs)
 
 -- ---- the sets
 

@@ -180,7 +180,7 @@ one-fits false false q f high = high refl
 first-most : (a b c : ℕ) → a ≤ max (a + b) c
 first-most a b c = omega arith
 
-second-most : (a b : ℕ) → b ≤ max a b
+pub second-most : (a b : ℕ) → b ≤ max a b
 second-most a b = omega arith
 
 pub fits-ends : (legs : Legs) (t : ℤ) (s : Shape) → fits legs t s ≡ true → (d : ℕ) → d < max (reach s) (extent legs) → nat_lt d s.full ≡ is_endless legs t d

@@ -18,8 +18,8 @@ use Rattle.tv_spec_slices.specs.Slices.{Shape, at, reach, covers, all_below, int
 use Rattle.tv_spec_slices.specs.Paths.{full_of, shape}
 use Rattle.tv_laws_slices.specs.Laws.{LeastCompletes}
 use Rattle.tv_laws_slices.proofs.Bases.{base-next, base-past, endless-first}
-use Rattle.tv_laws_slices.proofs.Fits.{below-from, falls-parts, falls-from, one-fits, fits-full, fits-above}
-use Rattle.tv_laws_slices.proofs.Steps.{first-reach, second-reach, at-past, upright, upright-endless, all-up_to, sum_of-below, x-above, y-above, x-below, y-below, behind, completion-next, completion-step}
+use Rattle.tv_laws_slices.proofs.Fits.{below-from, falls-parts, falls-from, one-fits, fits-full, fits-above, second-most}
+use Rattle.tv_laws_slices.proofs.Steps.{first-reach, at-past, upright, upright-endless, all-up_to, sum_of-below, x-above, y-above, x-below, y-below, behind, completion-next, completion-step}
 
 -- ---- a falling function as a list
 
@@ -320,7 +320,7 @@ module _ (legs : Legs) (t : ℤ) (a : Shape) (are : AreDiagrams legs) (f : fits 
   least-spends =
       let k = max (reach a) (reach (least legs t a)) in
       let left = completion-next legs t a k (first-reach (reach a) (reach (least legs t a))) in
-      let right = all-up_to legs (t +ℤ pos 1) (least legs t a) k (second-reach (reach a) (reach (least legs t a))) in
+      let right = all-up_to legs (t +ℤ pos 1) (least legs t a) k (second-most (reach a) (reach (least legs t a))) in
       rw (left, right)
       (sum_of-below (λ d. upright legs (d + x_from (t +ℤ pos 1)) (suc (d + y_from (t +ℤ pos 1))) (at (least legs t a) d))
       (λ d. upright legs (d + x_from (t +ℤ pos 1)) (suc (d + y_from (t +ℤ pos 1))) (at a (behind t d))) 0 k (λ d low far. one-least d))

@@ -5,7 +5,7 @@
 use Rattle.std.specs.Prelude.{◌≡◌, ℕ, zero, suc, ◌+◌, ◌-◌, ℤ, Bool, true, false, cond, ◌&&◌, nat_eq, nat_lt, nat_le, List, [], ◌∷◌, map, filter, length}
 use Rattle.std.specs.List.{flat_map}
 use Rattle.std.specs.Cmp.Lexicographic.{pointwise}
-use Rattle.std.proofs.Common.{refl, sym, ap, ◌∙◌, arith}
+use Rattle.std.proofs.Common.{refl, sym, ap, ◌∙◌, arith, add-zero}
 use Rattle.std.proofs.lemmas.Bool.Decides.{nat_tests}
 use Rattle.tv_lemmas.specs.Sums.{sum_of}
 use Rattle.tv_lemmas.proofs.Sums.{sum_of-append, sum_of-flat_map}
@@ -45,7 +45,7 @@ behind-more h c hs lists = sum_of-map (λ ks. bit (pointwise nat_eq (h ∷ hs) k
     by_test true = refl
     by_test false = sum_of-zero (λ (ks : List ℕ). 0) (λ ks. refl) lists
 
-exchange : (p q : Bool) (v : ℕ) → cond p (cond q v 0) 0 ≡ cond q (cond p v 0) 0
+pub exchange : (p q : Bool) (v : ℕ) → cond p (cond q v 0) 0 ≡ cond q (cond p v 0) 0
 exchange true true v = refl
 exchange true false v = refl
 exchange false true v = refl
@@ -112,9 +112,6 @@ module _ (b m top : ℕ) (tails : ℕ → ℕ → List (List ℕ)) where
         ∙ (chosen (nat_le b h) (nat_le h (b + m)) refl
         ∙ first_height b h m top (length hs) n (spent base d hs) (high base d h hs)))))
 
-plus_none : (k : ℕ) → k + 0 ≡ k
-plus_none k = omega arith
-
 none_plus : (k : ℕ) → 0 + k ≡ k
 none_plus k = omega arith
 
@@ -138,5 +135,5 @@ listed-once legs t d (suc n) top m (h ∷ hs) e =
     let front = flat_map (piece b m top tails) (filter (fits b m top tails) (down m)) in
     sum_of-append (λ ks. bit (pointwise nat_eq (h ∷ hs) ks)) front (cond (nat_eq b 0 && nat_eq m 0) ([] ∷ []) [])
     ∙ (ap (λ s. listed (h ∷ hs) front + s) (end-more (nat_eq b 0 && nat_eq m 0) h hs)
-    ∙ (plus_none (listed (h ∷ hs) front)
+    ∙ (add-zero (listed (h ∷ hs) front)
     ∙ some_height b m top tails h n hs (base_at legs t) (suc d) (λ c k. listed-once legs t (suc d) n c k hs (ap (base_at legs t) (next_place d n) ∙ e))))

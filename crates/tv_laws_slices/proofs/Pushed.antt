@@ -27,6 +27,7 @@ use Rattle.tv_laws_slices.specs.Laws.{same_shape, often, EntriesPush}
 use Rattle.tv_laws_slices.proofs.Sums.{sum_of-map, sum_of-same, sum_of-zero, sum_of-filter}
 use Rattle.tv_laws_slices.proofs.Once.{once-all}
 use Rattle.tv_laws_slices.proofs.Steps.{completion-step}
+use Rattle.tv_laws_slices.proofs.Listed.{exchange}
 
 pub sum_of-all : {A : Type 0} (P : A → Type 0) (f g : A → ℕ) → ((x : A) → P x → f x ≡ g x) → (xs : List A) → AllByRecursion P xs → sum_of f xs ≡ sum_of g xs
 sum_of-all P f g same [] all = refl
@@ -148,12 +149,6 @@ pub ways-last : (legs : Legs) (k : ℕ) (z : ℤ) (n : ℕ) (b : Shape) (c : ℕ
 unfolding ways last_step
 ways-last legs k z n b c t u e f =
     ap (λ d. last_step legs k z n b c d (diagonal_at z (suc n))) e ∙ ap (λ d. last_step legs k z n b c t d) f
-
-exchange : (p q : Bool) (w : ℕ) → cond p (cond q w 0) 0 ≡ cond q (cond p w 0) 0
-exchange true true w = refl
-exchange true false w = refl
-exchange false true w = refl
-exchange false false w = refl
 
 joined : (p q r : Bool) (w : ℕ) → cond p (cond (q && r) w 0) 0 ≡ cond q (cond (p && r) w 0) 0
 joined true true r w = refl

@@ -6,7 +6,7 @@
 -- x-next, y-next     where the next diagonal begins
 use Rattle.std.specs.Prelude.{◌≡◌, ℕ, zero, suc, ◌+◌, ◌-◌, ◌<◌, ◌≤◌, ℤ, pos, negsuc, ◌+ℤ◌, max, Bool, true, false, cond, ◌&&◌, nat_lt, nat_le, List, [], ◌∷◌}
 use Rattle.std.specs.List.{range_with_len}
-use Rattle.std.proofs.Common.{refl, sym, ap, ◌∙◌, arith, inl, inr}
+use Rattle.std.proofs.Common.{refl, sym, ap, ◌∙◌, arith, inl, inr, add-zero}
 use Rattle.std.proofs.lemmas.Int.{ints}
 use Rattle.std.proofs.lemmas.Bool.{cond-true, or_cases, and_parts, leb-true}
 use Rattle.std.proofs.lemmas.Bool.Decides.{nat_tests}
@@ -19,7 +19,7 @@ use Rattle.tv_cells.specs.Extras.{AreDiagrams}
 use Rattle.tv_spec_slices.specs.Slices.{Shape, at, reach, covers, interlaces_at, interlaces, base, is_endless, over, fits, extras_of, above, completion}
 use Rattle.tv_laws_slices.proofs.Sums.{sum_of-same, sum_of-zeros, sum_of-range}
 use Rattle.tv_laws_slices.proofs.Bases.{endless-first}
-use Rattle.tv_laws_slices.proofs.Fits.{below-at, fits-full}
+use Rattle.tv_laws_slices.proofs.Fits.{below-at, fits-full, second-most}
 
 abbrev pub upright : Legs → ℕ → ℕ → ℕ → ℕ
 upright legs x m h = sum_of (λ y. cond (has legs.along_z x y) 0 (h - base legs x y)) (below m)
@@ -56,10 +56,7 @@ sum_of-up_to f k n none l =
     let e : n ≡ k + (n - k) = omega arith in
     ap (λ m. sum_of f (below m)) e
     ∙ (sum_of-range f 0 k (n - k)
-    ∙ (ap (λ v. sum_of f (below k) + v) (sum_of-zeros f (0 + k) (n - k) (λ i m h. none i (omega arith))) ∙ plus_none (sum_of f (below k))))
-  where
-    plus_none : (s : ℕ) → s + 0 ≡ s
-    plus_none s = omega arith
+    ∙ (ap (λ v. sum_of f (below k) + v) (sum_of-zeros f (0 + k) (n - k) (λ i m h. none i (omega arith))) ∙ add-zero (sum_of f (below k))))
 
 -- ---- the cells over a row of places
 
@@ -192,15 +189,12 @@ ends-leg legs t b are f d h = endless-first legs t d are ∙ (ap (nat_lt d) (sym
 pub first-reach : (a b : ℕ) → a ≤ max a b
 first-reach a b = omega arith
 
-pub second-reach : (a b : ℕ) → b ≤ max a b
-second-reach a b = omega arith
-
 pub completion-step : (legs : Legs) (t : ℤ) (a b : Shape) → AreDiagrams legs → fits legs (t +ℤ pos 1) b ≡ true → interlaces t a b ≡ true →
     completion legs t a ≤ extras_of legs (t +ℤ pos 1) b + completion legs (t +ℤ pos 1) b
 completion-step legs t a b are f h =
     let k = max (reach a) (reach b) in
     let left = completion-next legs t a k (first-reach (reach a) (reach b)) in
-    let right = all-up_to legs (t +ℤ pos 1) b k (second-reach (reach a) (reach b)) in
+    let right = all-up_to legs (t +ℤ pos 1) b k (second-most (reach a) (reach b)) in
     rw (left, right)
     (sum_of-below (λ d. upright legs (d + x_from (t +ℤ pos 1)) (suc (d + y_from (t +ℤ pos 1))) (at a (behind t d)))
     (λ d. upright legs (d + x_from (t +ℤ pos 1)) (suc (d + y_from (t +ℤ pos 1))) (at b d)) 0 k

@@ -8,7 +8,7 @@ use Rattle.tv_cells.specs.declared.cell.Cell.{Cell}
 use Rattle.tv_cells.specs.declared.legs.Legs.{Legs}
 use Rattle.tv_cells.specs.Cells.{cell, same, x_from, y_from, cube}
 use Rattle.tv_cells.specs.Extras.{legs_at, extent, AreDiagrams}
-use Rattle.tv_cells.proofs.Cubes.{cube-has}
+use Rattle.tv_cells.proofs.Cubes.{cube-has, starts_within}
 use Rattle.tv_laws_counts.proofs.Rises.{any-filter}
 use Rattle.tv_spec_slices.specs.Falling.{falls}
 use Rattle.tv_spec_slices.specs.Slices.{Shape, at, reach, base_at, is_endless, fits, extras_of}
@@ -35,10 +35,6 @@ at-from s f i e = ap (slice_index s.heights) (back s.full e)
     back : (g : ℕ) → g ≡ f → (f + i) - g ≡ i
     back g e = omega arith
 
-from-near : (t : ℤ) → (x_from t ≤ nat_abs t) × (y_from t ≤ nat_abs t)
-from-near (pos n) = (omega arith, omega arith)
-from-near (negsuc n) = (omega arith, omega arith)
-
 -- ---- a slice by its cells in the cube
 
 abbrev far : Legs → ℕ → ℕ
@@ -61,7 +57,7 @@ lower legs k t a b are fa fb few near onto i = elim (cases_lt (slice_index b.hei
       let eb = at-from b f i (fits-full legs t b are fb) in
       let high = height-few legs t a k are fa few d in
       let short = early d ea l in
-      let sides = from-near t in
+      let sides = starts_within t in
       let h_high : h < at a d = below_at h (at a d) (slice_index a.heights i) l ea in
       let c = cell (d + x_from t) (d + y_from t) h in
       let ends : is_endless legs t d ≡ false = endless-first legs t d are ∙ le-ltb d f (omega arith) in

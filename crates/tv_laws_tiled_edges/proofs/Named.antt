@@ -24,9 +24,7 @@ use Rattle.tv_laws_tiled_edges.proofs.Corners.{IsBeside, a_not_b, b_not_c, c_not
 use Rattle.tv_laws_tiled_edges.proofs.Owners.{Rising, rising_filter}
 use Rattle.tv_laws_tiled_edges.proofs.Rules.{owns, owner_beside, sides_apart}
 use Rattle.tv_laws_tiled_edges.proofs.Places.{placed, contains-below, contains-pairs, contains-filter_map}
-
-less : (a b : ℕ) → nat_lt a b ≡ true → a < b
-less a b e = grind (arith, nat_tests)
+use Rattle.tv_lemmas.proofs.Naturals.{nat_lt-tells}
 
 more : (a b : ℕ) → nat_lt a b ≡ false → a ≢ b → b < a
 more a b e apart = grind (arith, nat_tests)
@@ -54,11 +52,11 @@ module _ (n : ℕ) (t : Triple) (ab : t.a ≢ t.b) (bc : t.b ≢ t.c) (ca : t.c 
   has_c = or_right (nat_eq t.a t.c) (nat_eq t.b t.c || nat_eq t.c t.c) (or_right (nat_eq t.b t.c) (nat_eq t.c t.c) (eq-eqb t.c t.c refl))
 
   rising_by : (x y z : Bool) → nat_lt t.a t.b ≡ x → nat_lt t.b t.c ≡ y → nat_lt t.a t.c ≡ z → IsRising n t (cond x (cond y (t.a, t.b, t.c) (cond z (t.a, t.c, t.b) (t.c, t.a, t.b))) (cond z (t.b, t.a, t.c) (cond y (t.b, t.c, t.a) (t.c, t.b, t.a))))
-  rising_by true true z e f g = record { first = less t.a t.b e; second = less t.b t.c f; listed = c; has_x = has_a; has_y = has_b; has_z = has_c }
-  rising_by true false true e f g = record { first = less t.a t.c g; second = more t.b t.c f bc; listed = b; has_x = has_a; has_y = has_c; has_z = has_b }
-  rising_by true false false e f g = record { first = more t.a t.c g (λ h. ca (sym h)); second = less t.a t.b e; listed = b; has_x = has_c; has_y = has_a; has_z = has_b }
-  rising_by false y true e f g = record { first = more t.a t.b e ab; second = less t.a t.c g; listed = c; has_x = has_b; has_y = has_a; has_z = has_c }
-  rising_by false true false e f g = record { first = less t.b t.c f; second = more t.a t.c g (λ h. ca (sym h)); listed = a; has_x = has_b; has_y = has_c; has_z = has_a }
+  rising_by true true z e f g = record { first = nat_lt-tells t.a t.b e; second = nat_lt-tells t.b t.c f; listed = c; has_x = has_a; has_y = has_b; has_z = has_c }
+  rising_by true false true e f g = record { first = nat_lt-tells t.a t.c g; second = more t.b t.c f bc; listed = b; has_x = has_a; has_y = has_c; has_z = has_b }
+  rising_by true false false e f g = record { first = more t.a t.c g (λ h. ca (sym h)); second = nat_lt-tells t.a t.b e; listed = b; has_x = has_c; has_y = has_a; has_z = has_b }
+  rising_by false y true e f g = record { first = more t.a t.b e ab; second = nat_lt-tells t.a t.c g; listed = c; has_x = has_b; has_y = has_a; has_z = has_c }
+  rising_by false true false e f g = record { first = nat_lt-tells t.b t.c f; second = more t.a t.c g (λ h. ca (sym h)); listed = a; has_x = has_b; has_y = has_c; has_z = has_a }
   rising_by false false false e f g = record { first = more t.b t.c f bc; second = more t.a t.b e ab; listed = a; has_x = has_c; has_y = has_b; has_z = has_a }
 
 rising-is : (ps : List Point) (t : Triple) → IsListed ps t → IsUnit ps t → IsRising (length ps) t (rising t.a t.b t.c)
@@ -113,7 +111,7 @@ module _ (w : Web) (coordinates : AllByRecursion HasCoordinates w.points) (tiled
 
   named_by : (a b : ℕ) (x : Bool) → nat_lt (position_or_len (names_compact a b) (compact w)) (length (compact w)) ≡ x → ((position_or_len (names_compact a b) (compact w) < length (compact w) → ⊥) → position_or_len (names_outer a b) (outer w) < length (outer w)) → NamesEdge w (cond x (Compact (position_or_len (names_compact a b) (compact w))) (Outer (position_or_len (names_outer a b) (outer w)))) a b
   named_by a b true e open_one =
-      let l = less (position_or_len (names_compact a b) (compact w)) (length (compact w)) e in
+      let l = nat_lt-tells (position_or_len (names_compact a b) (compact w)) (length (compact w)) e in
       record { listed = l; of_both = λ d. both _ _ a b (passes_at_first (names_compact a b) (compact w) d l) }
   named_by a b false e open_one =
       let l = open_one (not_less (position_or_len (names_compact a b) (compact w)) (length (compact w)) e) in

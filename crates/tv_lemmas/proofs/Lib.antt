@@ -5,3 +5,5 @@ pub mod Members
 pub mod Permuted
 pub mod Signs
 pub mod Sums
+pub mod Multiplied
+pub mod Naturals

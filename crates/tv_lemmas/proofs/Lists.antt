@@ -14,13 +14,15 @@
 -- list_any-flat_map   a member of joined pieces passes where one of a piece does
 -- length-flat_map-le  joined pieces of length at most m are at most m times as many
 -- length-pairs        as many pairs as the product of the two lengths
+-- pointwise-own       a list agrees with itself, place by place
 use Rattle.std.specs.Prelude.{◌≡◌, ℕ, zero, suc, ◌+◌, ◌*◌, ◌<◌, ◌≤◌, Bool, true, false, cond, ◌||◌, List, [], ◌∷◌, ◌++◌, map, filter, length}
-use Rattle.std.specs.List.{flat_map, AllByRecursion, list_any, range_with_len}
+use Rattle.std.specs.List.{flat_map, AllByRecursion, list_any, range_with_len, pointwise}
 use Rattle.std.proofs.Common.{refl, sym, ap, ◌∙◌, arith, length-append, append-nil, add-zero}
 use Rattle.std.proofs.lemmas.List.{length-map}
 use Rattle.std.proofs.lemmas.List.Concat.{flat_map-append}
 use Rattle.std.proofs.lemmas.List.Elements.{filter-append}
 use Rattle.std.proofs.lemmas.List.Folds.{list_any-append}
+use Rattle.std.proofs.lemmas.Bool.{and_from}
 
 pub map-same : {A B : Type 0} (f g : A → B) → ((x : A) → f x ≡ g x) → (xs : List A) → map f xs ≡ map g xs
 map-same f g same [] = refl
@@ -106,3 +108,7 @@ length-flat_map-le f m few (x ∷ xs) = omega (arith, length-append (f x) (flat_
 pub length-pairs : {A B C : Type 0} (f : A → B → C) (ys : List B) (xs : List A) → length (flat_map (λ x. map (f x) ys) xs) ≡ length xs * length ys
 length-pairs f ys [] = omega arith
 length-pairs f ys (x ∷ xs) = length-append (map (f x) ys) (flat_map (λ z. map (f z) ys) xs) ∙ (let front = length-map ys (f x) in let rest = length-pairs f ys xs in omega arith)
+
+pub pointwise-own : {A : Type 0} (same : A → A → Bool) → ((x : A) → same x x ≡ true) → (xs : List A) → pointwise same xs xs ≡ true
+pointwise-own same own [] = refl
+pointwise-own same own (x ∷ xs) = and_from (same x x) (pointwise same xs xs) (own x) (pointwise-own same own xs)

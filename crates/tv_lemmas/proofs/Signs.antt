@@ -1,7 +1,7 @@
 -- Signs of integers, of products and as Bool tests.
 --
 -- positive z == the test of 0 < z
-use Rattle.std.specs.Prelude.{◌+ℤ◌, ◌-ℤ◌, ◌≡◌, ◌≢◌, zero, suc, Bool, true, false, ℤ, pos, negsuc, ◌*ℤ◌, ◌≤ℤ◌, ◌<ℤ◌, ◌⊎◌, int_lt}
+use Rattle.std.specs.Prelude.{◌+ℤ◌, ◌-ℤ◌, ◌≡◌, ◌≢◌, zero, suc, Bool, true, false, ℤ, pos, negsuc, ◌*ℤ◌, ◌≤ℤ◌, ◌<ℤ◌, ◌⊎◌, int_lt, ℕ, cond, unsigned_abs}
 use Rattle.std.proofs.Common.{refl, arith, inl, inr}
 use Rattle.std.proofs.lemmas.Int.{ints}
 
@@ -158,3 +158,8 @@ true-positive z e = grind (arith, ints)
 
 pub false-positive : (z : ℤ) → positive z ≡ false → z ≤ℤ pos 0
 false-positive z e = grind (arith, ints)
+
+-- the absolute value of a number with a sign
+pub signed-size : (b : Bool) (n : ℕ) → unsigned_abs (cond b (pos 1) (negsuc 0) *ℤ pos n) ≡ n
+signed-size true n = omega (arith, ints)
+signed-size false n = omega (arith, ints)

@@ -3,8 +3,12 @@ use Rattle.std.proofs.Common.{◌≡◌, ℕ, zero, suc, ◌+◌, ◌-◌, ◌�
 use Rattle.std.specs.List.{flat_map}
 use Rattle.tv_partition.specs.declared.diagram.TheConstants.{MOST_CELLS}
 use Rattle.tv_partition.specs.Rows.{IsSmall, size, diagrams, diagrams_within, down_from}
-use Rattle.tv_partition.specs.Within.{CanEnd, behind, after}
+use Rattle.tv_partition.specs.Within.{CanEnd, behind}
 use Rattle.tv_partition.proofs.Bounds.{falling_is_diagram}
+
+-- the diagrams whose next row is row, with at most k rows more and left cells with that row
+unfoldable pub after : List ℕ → ℕ → ℕ → ℕ → List (List ℕ)
+after front k left row = behind (front ++ row ∷ []) (diagrams_within k row (left - row))
 
 behind-map : (front : List ℕ) (row : ℕ) (lists : List (List ℕ)) → behind front (map (λ rows. row ∷ rows) lists) ≡ behind (front ++ row ∷ []) lists
 unfolding behind

@@ -2,15 +2,11 @@
 --
 -- CanEnd front top         == what falls from top makes a diagram behind front
 -- behind front lists       == each of the lists behind front
--- after front k left row   == the diagrams whose next row is row, with at most k rows more and left cells with that row
-use Rattle.std.specs.Prelude.{ℕ, ◌-◌, List, [], ◌∷◌, ◌++◌, map}
-use Rattle.tv_partition.specs.Rows.{FallsFrom, IsDiagram, diagrams_within}
+use Rattle.std.specs.Prelude.{ℕ, List, ◌++◌, map}
+use Rattle.tv_partition.specs.Rows.{FallsFrom, IsDiagram}
 
 abbrev pub CanEnd : List ℕ → ℕ → Type 0
 CanEnd front top = (rows : List ℕ) → FallsFrom top rows → IsDiagram (front ++ rows)
 
 unfoldable pub behind : List ℕ → List (List ℕ) → List (List ℕ)
 behind front lists = map (λ rows. front ++ rows) lists
-
-unfoldable pub after : List ℕ → ℕ → ℕ → ℕ → List (List ℕ)
-after front k left row = behind (front ++ row ∷ []) (diagrams_within k row (left - row))

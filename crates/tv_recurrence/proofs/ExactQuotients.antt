@@ -6,7 +6,7 @@ use Rattle.std.specs.Prelude.{◌≡◌, ℕ, zero, suc, ◌*◌, ◌<◌, ◌�
 use Rattle.std.proofs.Common.{refl, sym, ap, arith, ◌∙◌, mul-le-mul_left}
 use Rattle.std.proofs.lemmas.Int.{ints, quot-rem, rem_below, unsigned_abs-mul}
 use Rattle.tv_lemmas.proofs.Integers.{mul-sub, mul-swap}
-use Rattle.tv_laws_katz.proofs.Multiplied.{one-mul}
+use Rattle.tv_lemmas.proofs.Multiplied.{one-mul}
 use Rattle.tv_recurrence.specs.Parts.{IsMultiple}
 
 -- a multiple of d that is smaller than d is 0

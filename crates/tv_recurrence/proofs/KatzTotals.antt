@@ -13,7 +13,7 @@ use Rattle.tv_spec_katz.specs.Product.{Factor}
 use Rattle.tv_laws_katz.specs.Weights.{IsWithinSlope}
 use Rattle.tv_laws_katz.proofs.GatheredFactors.{factors-listed}
 use Rattle.tv_laws_katz.proofs.LargerBound.{product-katz, product-absolute}
-use Rattle.tv_laws_katz.proofs.Multiplied.{mul-mul, one-mul}
+use Rattle.tv_lemmas.proofs.Multiplied.{mul-mul, one-mul}
 use Rattle.tv_laws_katz.proofs.Powers.{power_sign-square}
 use Rattle.tv_recurrence.specs.Parts.{Addends}
 use Rattle.tv_recurrence.specs.Products.{exponent_at, at_weight, product_by_weight, IsPartOf, ArePartsOf, IsLogarithmic}

@@ -20,15 +20,13 @@ use Rattle.tv_laws_katz.proofs.Totals.{when-on, when-off}
 use Rattle.tv_recurrence.proofs.NumberSums.{total_below-zero, total_below-add}
 use Rattle.tv_recurrence.specs.declared.part.Power.{Power}
 use Rattle.tv_recurrence.specs.Products.{power_by, same_step}
+use Rattle.tv_lemmas.proofs.Naturals.{nat_eq-tells}
 
 eq-on : (r s : ℕ) → r ≡ s → nat_eq r s ≡ true
 eq-on r s h = grind (arith, nat_tests)
 
 eq-off : (r s : ℕ) → (r ≡ s → ⊥) → nat_eq r s ≡ false
 eq-off r s h = grind (arith, nat_tests)
-
-eq-tells : (r s : ℕ) → nat_eq r s ≡ true → r ≡ s
-eq-tells r s h = grind (arith, nat_tests)
 
 scaled-split : (d a b y : ℤ) → (d *ℤ neg_ℤ (a +ℤ b)) *ℤ y ≡ ((d *ℤ neg_ℤ a) *ℤ y) +ℤ ((d *ℤ neg_ℤ b) *ℤ y)
 scaled-split d a b y =
@@ -54,7 +52,7 @@ module _ (d : ℤ) (F : ℕ → ℤ) where
   one-pick r e zero h = absurd (omega arith)
   one-pick r e (suc n) h = elim (cases_Bool (nat_eq r n)) [
     | inl on ↦
-        let same = eq-tells r n on in
+        let same = nat_eq-tells r n on in
         let here : one r e n ≡ (d *ℤ neg_ℤ e) *ℤ F r =
         ap (λ z. (d *ℤ neg_ℤ z) *ℤ F n) (when-on (nat_eq r n) e on) ∙ ap (λ s. (d *ℤ neg_ℤ e) *ℤ F s) (sym same) in
         omega (arith, ints, one-none r e n (omega arith), here)
@@ -108,7 +106,7 @@ module _ (d : ℤ) (F : ℕ → ℕ) where
   size-pick r e zero h = absurd (omega arith)
   size-pick r e (suc n) h = elim (cases_Bool (nat_eq r n)) [
     | inl on ↦
-        let same = eq-tells r n on in
+        let same = nat_eq-tells r n on in
         let here : size_one r e n ≡ unsigned_abs (d *ℤ e) * F r =
         ap (λ z. unsigned_abs (d *ℤ z) * F n) (when-on (nat_eq r n) e on) ∙ ap (λ s. unsigned_abs (d *ℤ e) * F s) (sym same) in
         omega (arith, total_below-more (size_one r e) n, size-none r e n (omega arith), here)
@@ -134,7 +132,7 @@ module _ (d : ℤ) (F : ℕ → ℕ) where
       unsigned_abs (d *ℤ power_by (f ∷ fs) s) * F s ≡ size_one f.step f.power s + unsigned_abs (d *ℤ power_by fs s) * F s
   size-split f fs apart s = elim (cases_Bool (nat_eq f.step s)) [
     | inl on ↦
-        let none : power_by fs s ≡ pos 0 = ap (power_by fs) (sym (eq-tells f.step s on)) ∙ power_by-none f.step fs apart in
+        let none : power_by fs s ≡ pos 0 = ap (power_by fs) (sym (nat_eq-tells f.step s on)) ∙ power_by-none f.step fs apart in
         let whole : power_by (f ∷ fs) s ≡ when (nat_eq f.step s) f.power = omega (arith, ints, none) in
         ap (λ z. unsigned_abs (d *ℤ z) * F s) whole ∙ omega (arith, size-zero (power_by fs s) (F s) none)
     | inr off ↦

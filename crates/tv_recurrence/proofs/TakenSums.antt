@@ -17,15 +17,13 @@ use Rattle.tv_ring.specs.Operations.{limit}
 use Rattle.tv_ring.specs.Whole.{wholes}
 use Rattle.tv_ring.specs.Sums.{at}
 use Rattle.tv_recurrence.specs.Parts.{taken_sum, taken_size}
+use Rattle.tv_lemmas.proofs.Naturals.{nat_lt-tells}
 
 below-on : (t s : ℕ) → t < s → nat_lt t s ≡ true
 below-on t s h = grind (arith, nat_tests)
 
 below-off : (t s : ℕ) → s ≤ t → nat_lt t s ≡ false
 below-off t s h = grind (arith, nat_tests)
-
-below-tells : (t s : ℕ) → nat_lt t s ≡ true → t < s
-below-tells t s h = grind (arith, nat_tests)
 
 above-tells : (t s : ℕ) → nat_lt t s ≡ false → s ≤ t
 above-tells t s h = grind (arith, nat_tests)
@@ -49,7 +47,7 @@ taken_size-stop (row ∷ rows) s t h = rw (below-on t s h) refl
 pub taken_sum-size : (rows : List (List ℤ)) (s t : ℕ) → unsigned_abs (taken_sum rows s t) ≤ taken_size rows s t
 taken_sum-size [] s t = omega (arith, ints)
 taken_sum-size (row ∷ rows) s t = elim (cases_Bool (nat_lt t s)) [
-  | inl on ↦ let h = below-tells t s on in
+  | inl on ↦ let h = nat_lt-tells t s on in
       rw (taken_sum-stop (row ∷ rows) s t h, taken_size-stop (row ∷ rows) s t h) (omega (arith, ints))
   | inr off ↦ let h = above-tells t s off in
       rw (taken_sum-step row rows s t h, taken_size-step row rows s t h) (omega (arith, ints, taken_sum-size rows s (t - s)))

@@ -14,7 +14,7 @@ use Rattle.tv_laws_katz.specs.Weights.{weight}
 use Rattle.tv_laws_katz.specs.Logarithm.{begins_at}
 use Rattle.tv_laws_katz.proofs.Differences.{place-same, difference_by-weight}
 use Rattle.tv_laws_katz.proofs.Elsewhere.{length-difference, degree-difference}
-use Rattle.tv_laws_katz.proofs.Multiplied.{suc-times}
+use Rattle.tv_lemmas.proofs.Multiplied.{suc-times}
 use Rattle.tv_recurrence.specs.Products.{class_after, at_weight}
 
 difference-place : (hs v B : List ℤ) (n m : ℤ) → length v ≡ length hs → length B ≡ length hs →

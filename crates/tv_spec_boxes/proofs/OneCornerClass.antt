@@ -3,7 +3,7 @@ use Rattle.std.proofs.Common.{◌≡◌, Contains, ℕ, zero, suc, ℤ, List, []
 use Rattle.tv_spec_plane.specs.Web.{Web}
 use Rattle.tv_spec_boxes.specs.Assignments.{class_of, zeros}
 use Rattle.tv_spec_boxes.specs.Classes.{IsClass, AreClasses}
-use Rattle.tv_spec_boxes.specs.OneCorner.{IsOneCorner}
+use Rattle.tv_spec_boxes.proofs.OneCorner.{IsOneCorner}
 use Rattle.tv_spec_boxes.proofs.OneCornerWeb.{IsBare, one_corner_bare}
 use Rattle.tv_spec_boxes.proofs.OneCornerCount.{only_assignment}
 

@@ -15,7 +15,7 @@ use Rattle.tv_cells.specs.Costs.{overlap_cost, overlaps}
 use Rattle.tv_cells.specs.Extras.{is_extras, extent, count, empty_legs}
 use Rattle.tv_spec_boxes.specs.Assignments.{all_legs, no_legs, zeros, assignments, choices, assignments_of, edge_costs, edge_twist, overlaps_of}
 use Rattle.tv_spec_boxes.specs.Configurations.{Configuration, extras_of, fillings, configuration, configurations, configuration_sign, boxes_left, chi_of, signed_count}
-use Rattle.tv_spec_boxes.specs.OneCorner.{IsOneCorner, with_sign, corner_coefficient}
+use Rattle.tv_spec_boxes.proofs.OneCorner.{IsOneCorner, with_sign, corner_coefficient}
 use Rattle.tv_spec_boxes.proofs.OneCornerWeb.{IsBare, one_corner_bare}
 use Rattle.tv_lemmas.specs.Sums.{total}
 use Rattle.tv_lemmas.proofs.Sums.{total-alike}

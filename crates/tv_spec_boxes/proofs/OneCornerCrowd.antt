@@ -9,7 +9,7 @@ use Rattle.tv_cells.specs.Cells.{cube}
 use Rattle.tv_spec_boxes.specs.Assignments.{no_legs, zeros}
 use Rattle.tv_spec_boxes.specs.Configurations.{fillings}
 use Rattle.tv_spec_boxes.specs.Numbers.{least, lowest, box_bound, crowd_on, crowd}
-use Rattle.tv_spec_boxes.specs.OneCorner.{IsOneCorner}
+use Rattle.tv_spec_boxes.proofs.OneCorner.{IsOneCorner}
 use Rattle.tv_spec_boxes.proofs.OneCornerWeb.{IsBare, one_corner_bare}
 use Rattle.tv_spec_boxes.proofs.OneCornerCount.{only_assignment, only_of_class, fillings-one, alone}
 use Rattle.tv_lemmas.proofs.Sums.{sum_of-term}

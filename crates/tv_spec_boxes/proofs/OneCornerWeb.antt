@@ -6,7 +6,7 @@ use Rattle.tv_spec_plane.specs.Plane.{Point}
 use Rattle.tv_spec_plane.specs.Web.{Web, compact, outer, edge_ref}
 use Rattle.tv_spec_boxes.specs.Assignments.{all_legs, no_legs}
 use Rattle.tv_cells.specs.Extras.{empty_legs}
-use Rattle.tv_spec_boxes.specs.OneCorner.{IsOneCorner}
+use Rattle.tv_spec_boxes.proofs.OneCorner.{IsOneCorner}
 use Rattle.tv_spec_plane.specs.Web.{NamesAll}
 use Rattle.tv_spec_plane.proofs.Examples.{triple}
 

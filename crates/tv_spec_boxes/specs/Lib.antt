@@ -3,7 +3,6 @@ pub mod Configurations
 pub mod Classes
 pub mod Relations
 pub mod Numbers
-pub mod OneCorner
 pub use Rattle.tv_spec_plane.specs.Plane
 pub use Rattle.tv_spec_plane.specs.Web
 pub use Rattle.tv_cells.specs.Cells

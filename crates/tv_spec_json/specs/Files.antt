@@ -10,7 +10,7 @@
 -- SpellsValue d w  == the value d spells that web; the numbers are within those of a text
 -- IsFileJson bytes w == the bytes are UTF-8, and read as a value that spells that web
 -- is_json bytes    == the first byte is `{`, a space, a tab, LF or CR: such bytes are taken as JSON, all others as text
--- IsRefusedJson bytes == they number at most 65536, and are no file in JSON: bytes without a reading, or of another form
+-- IsRefusedJson bytes == they number at most MOST_BYTES, and are no file in JSON: bytes without a reading, or of another form
 use Rattle.std.specs.Prelude.{◌≡◌, ◌≤◌, ℕ, ℤ, pos, List, [], ◌∷◌, length, codes, Bool, false, nat_eq, Some, IsUtf8}
 use Rattle.std.specs.List.{list_any}
 use Rattle.serde_json.specs.Data.{Data, number, array, object, Items, no_items, item, Members, no_members, member}
@@ -20,6 +20,7 @@ use Rattle.tv_spec_plane.specs.declared.records.Triple.{Triple}
 use Rattle.tv_spec_plane.specs.Plane.{Point}
 use Rattle.tv_spec_plane.specs.Web.{Web}
 use Rattle.tv_spec_text.specs.Files.{Fits}
+use Rattle.tv_spec_plane.specs.declared.limits.TheConstants.{MOST_BYTES}
 
 abbrev pub whole : ℤ → Data
 whole z = number (of_integer z)
@@ -64,5 +65,5 @@ is_json [] = false
 is_json (byte ∷ bytes) = list_any (nat_eq byte) (codes "{ \t\n\r")
 
 pub record IsRefusedJson (bytes : List ℕ) : Type 0 where
-  pub short : length bytes ≤ 65536
+  pub short : length bytes ≤ MOST_BYTES
   pub other : (w : Web) → IsFileJson bytes w → ⊥

@@ -1,5 +1,7 @@
 //! The limits of files and of what is asked of them. Code and contracts name them; nothing here looks at a file.
 
+/// The most bytes that a file may have.
+pub const MOST_BYTES: usize = 65_536;
 /// The most points that a file may list, and so the most entries of a class.
 pub const MOST_POINTS: usize = 64;
 /// The most triangles that a file may list.

@@ -1,13 +1,14 @@
 -- The summary of a full series on a grid.
 --
 -- Summary        == the grid's number, degree and order; how many classes and terms the report of the full series has; the
---                   coefficient of class zero at the order; and the sum of all coefficients modulo 1000000007
+--                   coefficient of its first class, which is class zero, at the order; and the sum of all coefficients modulo
+--                   1000000007
 -- terms_in ss, sum_in ss == the number of terms of the sections, and the sum of their coefficients
 -- sum_of_terms ts == the sum of the coefficients of these terms
 -- value_at n ts  == the coefficient at the exponent n, 0 where no term has it
--- zero_in n ss   == that of the first section, which is class zero
+-- zero_in n ss   == that of the first section
 -- IsSummary k D N ss s == the summary is that of grid k in degree D through N with these sections: it counts and sums them, and
---                   has the coefficient of class zero at N
+--                   has the coefficient of the first of them at N
 -- summary_lines, summary_text == its lines, its text
 use Rattle.std.specs.Prelude.{◌≡◌, ℕ, ◌+◌, ◌<◌, ℤ, pos, ◌+ℤ◌, ◌*ℤ◌, List, [], ◌∷◌, length, codes, cond}
 use Rattle.std.specs.Ordering.{int_eq}

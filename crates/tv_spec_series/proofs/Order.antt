@@ -19,7 +19,7 @@ int_lt-true a b h = grind (arith, ints)
 pub int_lt-false : (a b : ℤ) → b ≤ℤ a → int_lt a b ≡ false
 int_lt-false a b h = grind (arith, ints)
 
-int_lt_tells : (a b : ℤ) → int_lt a b ≡ true → a <ℤ b
+pub int_lt_tells : (a b : ℤ) → int_lt a b ≡ true → a <ℤ b
 int_lt_tells a b h = grind (arith, ints)
 
 int_eq-true : (a b : ℤ) → a ≡ b → int_eq a b ≡ true

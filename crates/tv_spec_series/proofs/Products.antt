@@ -14,6 +14,7 @@ use Rattle.tv_ring.proofs.Products.{term_is, convolution_is}
 use Rattle.tv_laws_series.specs.Terms.{above}
 use Rattle.tv_spec_plane.specs.Web.{below}
 use Rattle.tv_spec_series.specs.Reduced.{product_at, quotient_size}
+use Rattle.tv_lemmas.proofs.Naturals.{as_natural-none}
 
 abbrev pub from : (ℤ → ℤ) → ℤ → ℕ → ℤ
 from f m k = f (m +ℤ pos k)
@@ -53,11 +54,6 @@ sum_of-below f (suc n) =
     last ∙ (ap (λ s. sum_of f (below n) + s) e ∙ (ap (λ s. s + f n) (sum_of-below f n) ∙ sym (total_below-more f n)))
 
 -- ---- the product
-
-as_natural-none : (z : ℤ) → z ≤ℤ pos 0 → as_natural z ≡ 0
-as_natural-none (pos zero) h = refl
-as_natural-none (pos (suc n)) h = absurd (omega (arith, ints))
-as_natural-none (negsuc n) h = refl
 
 as_natural-above : (low n : ℤ) → as_natural (n -ℤ low) ≡ above low n
 unfolding above

@@ -8,7 +8,7 @@ use Rattle.std.specs.Prelude.{◌≡◌, ℕ, suc, ◌<◌, ◌≤◌, List, len
 use Rattle.tv_lattice.specs.declared.fault.InputError.{InputError}
 use Rattle.tv_lattice.specs.declared.fault.InputError.TheVariants.{Fault, Memory}
 use Rattle.tv_lattice.specs.declared.fault.FileFault.TheVariants.{TooLong, Line, TooMany}
-use Rattle.tv_text.specs.declared.file.TheConstants.{MOST_BYTES}
+use Rattle.tv_spec_plane.specs.declared.limits.TheConstants.{MOST_BYTES}
 use Rattle.tv_lattice.specs.Limits.{IsWithinLimits}
 use Rattle.tv_lattice.specs.Excesses.{IsExcess}
 use Rattle.tv_spec_plane.specs.Web.{Web}

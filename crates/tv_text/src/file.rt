@@ -12,9 +12,7 @@ use std::alloc::Global;
 use tv_lattice::excess::limits;
 use tv_lattice::fault::{FileFault, InputError};
 use tv_lattice::file::{FileData, RawFile};
-
-/// The most bytes that a file may have.
-pub const MOST_BYTES: usize = 65_536;
+use tv_spec_plane::limits::MOST_BYTES;
 
 /// The file that the bytes spell, whatever their first byte is. They are refused where they are more than `MOST_BYTES`,
 /// else at the first line with which no file goes on (after the last line, where they end too early), else by the

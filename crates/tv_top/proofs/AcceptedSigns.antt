@@ -13,6 +13,7 @@ use Rattle.tv_spec_json.specs.Files.{is_json}
 use Rattle.tv_top.specs.Acceptance.{turned_web}
 use Rattle.tv_top.proofs.Reading.{within_limits}
 use Rattle.tv_top.specs.Laws.{AcceptedHasEdgeRule, AcceptedConfigurationSign, AcceptedPartialSign, AcceptedNoneCancels, AcceptedSizeIsNumber}
+use Rattle.tv_lemmas.proofs.Signs.{signed-size}
 
 pub accepted_rule : AcceptedHasEdgeRule
 accepted_rule bytes w accepted =
@@ -27,11 +28,6 @@ accepted_partial_sign bytes w t c accepted = partial_has_sign w t c (accepted_ru
 
 pub accepted_number : AcceptedNoneCancels
 accepted_number bytes w fixed v n accepted = counted_sign w fixed v n (accepted_rule bytes w accepted)
-
--- the absolute value of a number with a sign
-signed-size : (b : Bool) (k : ℕ) → unsigned_abs (cond b (pos 1) (negsuc 0) *ℤ pos k) ≡ k
-signed-size true k = omega (arith, ints)
-signed-size false k = omega (arith, ints)
 
 pub accepted_size : AcceptedSizeIsNumber
 accepted_size bytes w fixed v n accepted =

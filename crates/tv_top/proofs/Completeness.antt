@@ -7,7 +7,7 @@ use Rattle.tv_spec_text.specs.Lines.{Word, Line as TextLine}
 use Rattle.tv_spec_text.specs.Places.{IsPlace}
 use Rattle.tv_spec_text.proofs.Places.{IsPlace-none}
 use Rattle.tv_spec_json.specs.Files.{is_json}
-use Rattle.tv_text.specs.declared.file.TheConstants.{MOST_BYTES}
+use Rattle.tv_spec_plane.specs.declared.limits.TheConstants.{MOST_BYTES}
 use Rattle.tv_lattice.specs.declared.fault.FileFault.{FileFault}
 use Rattle.tv_lattice.specs.declared.fault.FileFault.TheVariants.{TooLong, Line, Json, TooMany, Repeated, Index, Flat, Area, Twice, Unmatched, Bare, HeightCount, Degree}
 use Rattle.tv_lattice.specs.Limits.{IsWithinLimits}

@@ -6,7 +6,7 @@ use Rattle.tv_spec_text.proofs.Readings.{Spells-unique}
 use Rattle.tv_lattice.specs.Limits.{IsWithinLimits}
 use Rattle.tv_lattice.specs.declared.fault.FileFault.{FileFault}
 use Rattle.tv_lattice.specs.declared.fault.InputError.TheVariants.{Fault}
-use Rattle.tv_text.specs.declared.file.TheConstants.{MOST_BYTES}
+use Rattle.tv_spec_plane.specs.declared.limits.TheConstants.{MOST_BYTES}
 use Rattle.tv_text.proofs.Exact.{IsText-accepted}
 use Rattle.tv_json.proofs.Exact.{IsFileJson-unique, IsJson-accepted}
 use Rattle.tv_top.specs.Acceptance.{ReadsAs}

@@ -14,7 +14,7 @@ use Rattle.tv_top.specs.Acceptance.{IsAccepted}
 use Rattle.tv_top.specs.Rejections.{FaultOf}
 use Rattle.tv_top.specs.Answers.{Change, Gave, IsOver, Deserves, DeservesFile, Reads}
 use Rattle.tv_top.specs.Replies.{CarriesOut, IsCarriedOut, Judges, IsJudged, Replies, Says, Fails}
-use Rattle.tv_text.specs.declared.file.TheConstants.{MOST_BYTES}
+use Rattle.tv_spec_plane.specs.declared.limits.TheConstants.{MOST_BYTES}
 use Rattle.tv_top.specs.declared.command.Command.{Command}
 use Rattle.tv_top.specs.declared.answer.Answer.{Answer}
 use Rattle.tv_top.specs.declared.answer.Failure.{Failure}

@@ -18,7 +18,7 @@ use Rattle.tv_degrees.specs.Edges.{edge_at, with_heights}
 use Rattle.tv_degrees.specs.Grades.{IsFirstLow}
 use Rattle.tv_spec_plane.specs.Graded.{HasDegree, IsGraded}
 use Rattle.tv_spec_json.specs.Files.{is_json}
-use Rattle.tv_text.specs.declared.file.TheConstants.{MOST_BYTES}
+use Rattle.tv_spec_plane.specs.declared.limits.TheConstants.{MOST_BYTES}
 use Rattle.tv_lattice.specs.declared.fault.FileFault.{FileFault}
 use Rattle.tv_top.specs.Acceptance.{turned_web, IsFile, IsAccepted, IsSound, IsUnsound, IsLowEdge}
 use Rattle.tv_top.specs.Rejections.{RefusedAs, IsFileFault, IsRefused}

@@ -11,7 +11,7 @@ use Rattle.tv_spec_series.specs.Families.{Row, Family, coefficient}
 use Rattle.tv_spec_series.specs.Reduced.{full_coefficient}
 use Rattle.tv_spec_series.specs.Full.{IsFull, IsFullRow}
 use Rattle.tv_spec_reports.specs.Grids.{grid}
-use Rattle.tv_spec_reports.specs.SummaryReport.{IsFullSection, IsSummaryReport}
+use Rattle.tv_spec_reports.specs.SummaryReport.{HasFullTerms, IsSummaryReport}
 use Rattle.tv_reports.specs.Sections.{section_of, sections_of, TellsRow}
 use Rattle.tv_reports.proofs.Sections.{sections_tell}
 use Rattle.tv_top.specs.Replies.{IsSummed, Summarizes, CarriesOut, IsCarriedOut}
@@ -21,7 +21,7 @@ use Rattle.tv_top.specs.declared.answer.Failure.{Failure}
 use Rattle.tv_top.proofs.Told.{terms-onto, entries_of}
 
 full_sections : (w : Web) (d : ℕ) (n : ℤ) (f : Family ℤ) (rows : List (Row ℤ)) → f.upto ≡ n → AllByRecursion (IsFullRow wholes w (no_legs w) d n) rows
-    → AllByRecursion (λ row. TellsRow f row (section_of f.heights row)) rows → AllByRecursion (IsFullSection w n) (map (section_of f.heights) rows)
+    → AllByRecursion (λ row. TellsRow f row (section_of f.heights row)) rows → AllByRecursion (HasFullTerms w n) (map (section_of f.heights) rows)
 full_sections w d n f [] u full tells = tt
 full_sections w d n f (row ∷ rows) u full tells =
     let counts : (i : ℤ) → i ≤ℤ n → full_coefficient w (no_legs w) row.class i ≡ coefficient wholes row.series i = λ i h. sym (full.0.counts i h ∙ whole_times-wholes (full_coefficient w (no_legs w) row.class i)) in

@@ -14,7 +14,7 @@ use Rattle.tv_spec_json.specs.Files.{is_json}
 use Rattle.tv_text.specs.Faults.{IsTextFault}
 use Rattle.tv_json.specs.Faults.{IsJsonFault}
 use Rattle.tv_top.specs.Acceptance.{IsFile, IsUnsoundBy}
-use Rattle.tv_text.specs.declared.file.TheConstants.{MOST_BYTES}
+use Rattle.tv_spec_plane.specs.declared.limits.TheConstants.{MOST_BYTES}
 
 abbrev pub RefusedAs : Bool → List ℕ → InputError → Type 0
 RefusedAs true bytes e = IsJsonFault bytes e

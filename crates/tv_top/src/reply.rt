@@ -16,7 +16,7 @@ use std::alloc::Global;
 use tv_degrees::grade::GradedWeb;
 use tv_lattice::fault::{FileFault, InputError};
 use tv_outside::{ReadEnd, Source, read_all};
-use tv_text::file::MOST_BYTES;
+use tv_spec_plane::limits::MOST_BYTES;
 use tv_text::refusal::Refusal;
 
 /// What the words and the source deserve. The words are looked at first, and nothing is read where they are refused.

@@ -10,6 +10,7 @@ use Rattle.tv_spec_plane.specs.Plane.{Segment}
 use Rattle.tv_laws_tiling.specs.Members.{Among}
 use Rattle.tv_laws_tiling.specs.Edges.{sides, edges}
 use Rattle.tv_triangulation.specs.Segments.{same_segment, precedes}
+use Rattle.std.proofs.lemmas.Bool.{or_cases}
 
 pub same_pair : (a b c d : ℕ) → a ≡ c → b ≡ d → ◌≡◌ {A = Segment} (a, b) (c, d)
 same_pair a b c d e f = cc
@@ -22,10 +23,6 @@ same_segment-true s r e =
 
 same_segment-same : (s : Segment) → same_segment s s ≡ true
 same_segment-same s = grind (arith, nat_tests)
-
-or_cases : (a b : Bool) → (a || b) ≡ true → (a ≡ true) ⊎ (b ≡ true)
-or_cases true b e = inl refl
-or_cases false b e = inr e
 
 or_left : (a b : Bool) → a ≡ true → (a || b) ≡ true
 or_left true b e = refl

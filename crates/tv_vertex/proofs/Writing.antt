@@ -4,8 +4,8 @@ use Rattle.std.proofs.Common.{◌≡◌, ℕ, ◌+◌, ◌-◌, ◌*◌, ◌<◌
 use Rattle.std.specs.List.{flat_map, range_with_len}
 use Rattle.tv_cells.specs.declared.cell.Cell.{Cell}
 use Rattle.tv_cells.specs.Cells.{cell, cube}
-use Rattle.tv_cells.proofs.Diagonals.{numbers-next, numbers-none, cube-diagonals}
-use Rattle.tv_cells.specs.Grid.{heights, columns, diagonal_of, diagonals}
+use Rattle.tv_cells.proofs.Diagonals.{diagonals, numbers-next, numbers-none, cube-diagonals}
+use Rattle.tv_cells.specs.Grid.{heights, columns, diagonal_of}
 
 -- one part more is written
 next_part : {X : Type 0} (f : X → List Cell) (written whole : List Cell) (x : X) (xs : List X) → written ++ flat_map f (x ∷ xs) ≡ whole → (written ++ f x) ++ flat_map f xs ≡ whole

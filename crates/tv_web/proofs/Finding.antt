@@ -7,7 +7,12 @@ use Rattle.std.proofs.Common.{refl, sym, ap, ◌∙◌, arith}
 use Rattle.tv_spec_plane.specs.declared.records.Triple.{Triple}
 use Rattle.tv_web.specs.declared.owners.Found.{Found}
 use Rattle.tv_web.specs.declared.owners.Found.TheVariants.{Nothing, More}
-use Rattle.tv_web.specs.Found.{owns, owners_in, found_of, and_also, and_all}
+use Rattle.tv_web.specs.Found.{owns, owners_in, found_of, and_also}
+
+-- these numbers more
+abbrev pub and_all : Found → List ℕ → Found
+and_all f [] = f
+and_all f (t ∷ ts) = and_all (and_also f t) ts
 
 pub and_all-more : (ts : List ℕ) → and_all More ts ≡ More
 and_all-more [] = refl

@@ -5,7 +5,6 @@
 -- owners_in ts a b == the numbers of the triangles that have both points, rising
 -- found_of ts      == whether a list has no, one or two numbers, or more
 -- and_also f t     == one number more
--- and_all f ts     == these numbers more
 use Rattle.std.specs.Prelude.{ℕ, List, [], ◌∷◌, Bool, ◌&&◌}
 use Rattle.tv_spec_plane.specs.declared.records.Triple.{Triple}
 use Rattle.tv_spec_plane.specs.Tiling.{triangle_at}
@@ -33,7 +32,3 @@ and_also Nothing t = One t
 and_also (One s) t = Two s t
 and_also (Two r s) t = More
 and_also More t = More
-
-abbrev pub and_all : Found → List ℕ → Found
-and_all f [] = f
-and_all f (t ∷ ts) = and_all (and_also f t) ts

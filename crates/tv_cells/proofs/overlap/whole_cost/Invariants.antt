@@ -1,6 +1,6 @@
 use Rattle.std.proofs.Common.{◌≡◌, ◌+◌, ◌-◌, ◌*◌, ◌≤◌}
 use Rattle.tv_cells.specs.Costs.{overlaps}
-use Rattle.tv_cells.specs.Grid.{diagonals}
+use Rattle.tv_cells.proofs.Diagonals.{diagonals}
 use Rattle.tv_cells.proofs.overlap.whole_cost.Given as goal
 
 abbrev pub invariant-loop-k : goal.invariant-loop-k

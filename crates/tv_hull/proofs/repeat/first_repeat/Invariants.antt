@@ -1,4 +1,4 @@
-use Rattle.tv_hull.specs.Pairs.{NoneBelow}
+use Rattle.tv_hull.proofs.Pairs.{NoneBelow}
 use Rattle.tv_hull.specs.Points.{IsRepeat}
 use Rattle.tv_hull.proofs.repeat.first_repeat.Given as goal
 

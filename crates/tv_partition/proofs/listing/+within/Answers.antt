@@ -2,8 +2,8 @@ use Rattle.std.proofs.Common.{◌≡◌, ℕ, ◌+◌, ◌-◌, List, [], ◌∷
 use Rattle.std.specs.Prelude.{OnOk}
 use Rattle.std.specs.List.{flat_map}
 use Rattle.tv_partition.specs.Rows.{IsSmall, size, diagrams_within, down_from}
-use Rattle.tv_partition.specs.Within.{CanEnd, behind, after}
-use Rattle.tv_partition.proofs.Written.{rows-start, rows-next, whole-front, no-room, front-small, size-push}
+use Rattle.tv_partition.specs.Within.{CanEnd, behind}
+use Rattle.tv_partition.proofs.Written.{after, rows-start, rows-next, whole-front, no-room, front-small, size-push}
 use Rattle.tv_partition.proofs.listing.+within.Goals as goal
 
 pub push_after-push_within-requires : goal.push_after-push_within-requires

@@ -1,7 +1,8 @@
 use Rattle.std.proofs.Common.{◌≡◌, ◌+◌, ◌-◌, ◌*◌, ◌≤◌, ◌++◌}
 use Rattle.std.specs.List.{flat_map}
 use Rattle.tv_partition.specs.Rows.{diagrams_within, down_from}
-use Rattle.tv_partition.specs.Within.{behind, after}
+use Rattle.tv_partition.specs.Within.{behind}
+use Rattle.tv_partition.proofs.Written.{after}
 use Rattle.tv_partition.proofs.listing.+within.Given as goal
 
 abbrev pub decreases-push_within : goal.decreases-push_within

@@ -1,6 +1,6 @@
 use Rattle.std.proofs.Common.{◌≡◌, ◌+◌, ◌≤◌, List, ℕ, length, arith, ◌∙◌, subst}
 use Rattle.tv_top.specs.Replies.{IsJudged}
-use Rattle.tv_text.specs.declared.file.TheConstants.{MOST_BYTES}
+use Rattle.tv_spec_plane.specs.declared.limits.TheConstants.{MOST_BYTES}
 use Rattle.tv_top.proofs.RejectedReply.{too_long_reply, judged_reply, command_reads}
 use Rattle.tv_top.proofs.reply.over_source.Goals as goal
 

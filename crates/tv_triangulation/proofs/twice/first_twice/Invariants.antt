@@ -1,4 +1,4 @@
-use Rattle.tv_hull.specs.Pairs.{NoneBelow}
+use Rattle.tv_hull.proofs.Pairs.{NoneBelow}
 use Rattle.tv_triangulation.specs.Checks.{IsTwice}
 use Rattle.tv_triangulation.proofs.twice.first_twice.Given as goal
 

@@ -1,5 +1,5 @@
 use Rattle.std.proofs.Common.{◌≡◌, ◌-◌, ◌++◌}
-use Rattle.tv_cells.specs.Grid.{diagonals}
+use Rattle.tv_cells.proofs.Diagonals.{diagonals}
 use Rattle.tv_vertex.proofs.grid.cube_of.Given as goal
 
 abbrev pub invariant-loop-k : goal.invariant-loop-k

@@ -1,5 +1,6 @@
 use Rattle.std.proofs.Common.{◌≡◌}
-use Rattle.tv_web.specs.Found.{and_all, found_of, owners_in}
+use Rattle.tv_web.specs.Found.{found_of, owners_in}
+use Rattle.tv_web.proofs.Finding.{and_all}
 use Rattle.tv_web.proofs.Finding.{left}
 use Rattle.tv_web.proofs.owners.owners_of.Given as goal
 
