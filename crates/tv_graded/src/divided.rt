@@ -8,22 +8,18 @@ ghost use Rattle.tv_spec_series.specs.Families.{divided_row};
 ghost use Rattle.tv_graded.specs.Calls.{OnWideClass, IsRowWide, IsAmongWide};
 
 use crate::fault::GradedFault;
-use crate::kept::{Kept, copy_of};
+use crate::kept::Kept;
 use std::alloc::Global;
 use tv_laurent::{Series, SeriesFault};
 use tv_ring::Ring;
 
-fn divided_row<C: Ring>(
-    alloc: Global,
-    row: &Kept<C>,
-    zero: &Series<C>,
-) -> Result<Kept<C>, GradedFault>
+fn divided_row<C: Ring>(row: &Kept<C>, zero: &Series<C>) -> Result<Kept<C>, GradedFault>
     requires unit { IsUnitSeries C.ring zero.now }
     requires reaches { QuotientReaches C.ring row.now.series zero.now }
     ensures value { IfOk result (λ divided. divided ≡ divided_row C.ring zero.now row.now) }
     ensures wide { IfErr result (λ e. OnWideClass e (IsRowWide C.ring zero.now row.now)) }
 {
-    let class = copy_of(alloc, row.class())?;
+    let class = row.class().copy()?;
     match row.series().div_unit(zero) {
         Ok(series) => Ok(Kept::new(class, series)),
         Err(SeriesFault::Wide(exponent)) => Err(GradedFault::Wide { class, exponent }),
@@ -44,7 +40,7 @@ pub fn divided_rows<C: Ring>(
 {
     let mut divided = Vec::with_capacity(alloc, rows.len())?;
     for row in rows {
-        divided.push(divided_row(alloc, row, zero)?)?;
+        divided.push(divided_row(row, zero)?)?;
     }
     Ok(divided)
 }

@@ -4,7 +4,7 @@ ghost use Rattle.std.specs.Prelude.{◌≡◌, IfOk};
 ghost use Rattle.tv_laws_series.specs.Terms.{IsWithin};
 ghost use Rattle.tv_spec_series.specs.Families.{row, cut_row};
 
-use std::alloc::{AllocError, Global};
+use std::alloc::AllocError;
 use std::marker::Model;
 use tv_lattice::class::Class;
 use tv_laurent::Series;
@@ -23,13 +23,6 @@ impl<C: Ring> Model for Kept<C> {
     ghost Value = { Row C };
 
     ghost view = { λ kept. row kept.class kept.series };
-}
-
-/// The same class once more.
-pub fn copy_of(alloc: Global, class: &Class) -> Result<Class, AllocError>
-    ensures value { IfOk result (λ copy. copy ≡ class.now) }
-{
-    Ok(Class::new(class.entries().to_vec(alloc)?))
 }
 
 impl<C: Ring> Kept<C> {
@@ -55,10 +48,10 @@ impl<C: Ring> Kept<C> {
     }
 
     /// The same row once more.
-    pub fn copy(&self, alloc: Global) -> Result<Kept<C>, AllocError>
+    pub fn copy(&self) -> Result<Kept<C>, AllocError>
         ensures value { IfOk result (λ copy. copy ≡ self.now) }
     {
-        let class = copy_of(alloc, &self.class)?;
+        let class = self.class.copy()?;
         let series = self.series.copy()?;
         Ok(Kept { class, series })
     }

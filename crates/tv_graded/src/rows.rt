@@ -14,7 +14,7 @@ pub fn copies<C: Ring>(alloc: Global, rows: &[Kept<C>]) -> Result<Vec<Kept<C>>, 
 {
     let mut copies = Vec::with_capacity(alloc, rows.len())?;
     for row in rows {
-        copies.push(row.copy(alloc)?)?;
+        copies.push(row.copy()?)?;
     }
     Ok(copies)
 }

@@ -45,6 +45,14 @@ impl Class {
         &self.entries
     }
 
+    /// The same class once more. It errs only for want of memory.
+    pub fn copy(&self) -> Result<Class, AllocError>
+        ensures value { IfOk result (λ class. class ≡ self.now) }
+    {
+        let entries = self.entries.to_vec(*self.entries.allocator())?;
+        Ok(Class { entries })
+    }
+
     /// The sum entry by entry: the class of two curves together. It errs only for want of memory.
     pub fn plus(&self, other: &Class) -> Result<Class, AllocError>
         requires same_length { length self.now ≡ length other.now }

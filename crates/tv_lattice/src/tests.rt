@@ -11,7 +11,8 @@ fn adds_classes(rt: HostRuntime) -> Result<(), Fail> {
     entries.push(1)?;
     entries.push(-1)?;
     let class = Class::new(entries);
-    let sum = class.plus(&class)?;
+    let copy = class.copy()?;
+    let sum = class.plus(&copy)?;
     let expected: [i64; 2] = [2, -2];
     assert_eq!(rt; sum.entries(), expected.as_slice());
     Ok(())
