@@ -1,0 +1,3 @@
+mod Values
+pub mod Picked
+pub mod Kept

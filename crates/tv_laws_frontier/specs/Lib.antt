@@ -1,0 +1,7 @@
+pub mod Frontier
+pub mod Laws
+pub use Rattle.tv_spec_plane.specs.Web
+pub use Rattle.tv_spec_boxes.specs.Assignments
+pub use Rattle.tv_spec_boxes.specs.Configurations
+pub use Rattle.tv_spec_boxes.specs.Numbers
+pub use Rattle.tv_spec_partial.specs.Partial
