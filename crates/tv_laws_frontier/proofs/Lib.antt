@@ -1,3 +1,8 @@
 mod Values
 pub mod Picked
+pub mod Filters
+pub mod Filled
 pub mod Kept
+pub mod PartialSums
+pub mod Whole
+pub mod Crowded
