@@ -6,3 +6,6 @@ pub mod Kept
 pub mod PartialSums
 pub mod Whole
 pub mod Crowded
+pub mod Parted
+pub mod Agreeing
+pub mod Corners

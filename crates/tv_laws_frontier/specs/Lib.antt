@@ -1,4 +1,5 @@
 pub mod Frontier
+pub mod Steps
 pub mod Laws
 pub use Rattle.tv_spec_plane.specs.Web
 pub use Rattle.tv_spec_boxes.specs.Assignments
