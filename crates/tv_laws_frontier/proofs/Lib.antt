@@ -9,3 +9,5 @@ pub mod Crowded
 pub mod Parted
 pub mod Agreeing
 pub mod Corners
+pub mod Placed
+pub mod Convolved
