@@ -11,3 +11,4 @@ pub mod Agreeing
 pub mod Corners
 pub mod Placed
 pub mod Convolved
+pub mod Resting

@@ -33,7 +33,7 @@ use Rattle.tv_laws_frontier.proofs.Kept.{kept_are_all}
 
 -- ---- assignments that rest on the met edges
 
-empty-rows : (d : Rows) → is_empty d ≡ true → d ≡ []
+pub empty-rows : (d : Rows) → is_empty d ≡ true → d ≡ []
 empty-rows [] e = refl
 empty-rows (row ∷ d) e = absurd (let none : ⊥ = grind (arith, nat_tests) in none)
 
