@@ -12,3 +12,5 @@ pub mod Corners
 pub mod Placed
 pub mod Convolved
 pub mod Resting
+pub mod Classes
+pub mod Stepping
