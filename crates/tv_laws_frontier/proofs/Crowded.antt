@@ -92,7 +92,7 @@ inside-crowd w fixed d t k v i n graded also within h least most =
     let all : sum_of (crowd_at w fixed d n) (filter (λ a. same_vector (class_of w a) v) (assignments w d)) ≡ crowd w fixed d n v = ap (sum_of (crowd_at w fixed d n)) (sym (assignments_by_degree w d v graded most)) ∙ sym (crowd_is w fixed d n v least most) in
     omega arith
 
-none-of : {A : Type 0} (f : A → ℕ) (xs : List A) → AllByRecursion (λ x. ⊥) xs → sum_of f xs ≡ 0
+pub none-of : {A : Type 0} (f : A → ℕ) (xs : List A) → AllByRecursion (λ x. ⊥) xs → sum_of f xs ≡ 0
 none-of f [] all = refl
 none-of f (x ∷ xs) all = absurd all.0
 

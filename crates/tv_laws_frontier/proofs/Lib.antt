@@ -14,3 +14,4 @@ pub mod Convolved
 pub mod Resting
 pub mod Classes
 pub mod Stepping
+pub mod Regrouped
