@@ -15,3 +15,4 @@ pub mod Resting
 pub mod Classes
 pub mod Stepping
 pub mod Regrouped
+pub mod Step

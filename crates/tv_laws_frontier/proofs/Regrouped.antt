@@ -39,7 +39,7 @@ use Rattle.tv_laws_frontier.proofs.Placed.{put-long, put-diagrams, picked-put, p
 use Rattle.tv_laws_frontier.proofs.Resting.{met-apart, pending-apart, pending-near, chosen-is, put-rests, split-rests, only-rests}
 use Rattle.tv_laws_frontier.proofs.Stepping.{near-same, kept-next}
 
-choice_equality : IsEquality same_choice
+pub choice_equality : IsEquality same_choice
 choice_equality = record { own = pointwise-own same_rows own; tells = pointwise-tells same_rows same_lists }
 
 -- ---- members of the lists
@@ -66,7 +66,7 @@ only-listed w d p a graded among =
       within = omega arith;
     })
 
-picked-listed : (w : Web) (d : ℕ) (p : CompactEdge → Bool) (a : Assignment) → IsGraded w → Contains (assignments w d) a → Contains (choices_on w p d) (picked p (compact w) a)
+pub picked-listed : (w : Web) (d : ℕ) (p : CompactEdge → Bool) (a : Assignment) → IsGraded w → Contains (assignments w d) a → Contains (choices_on w p d) (picked p (compact w) a)
 picked-listed w d p a graded among =
     let is = listed-choice w d a among in
     let fewer = picked-degree p (λ e. as_natural (edge_degree w e)) (compact w) a in
