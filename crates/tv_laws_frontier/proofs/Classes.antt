@@ -13,7 +13,7 @@ use Rattle.tv_laws_frontier.specs.Steps.{is_new, put, nothing, new_part}
 use Rattle.tv_laws_frontier.proofs.Placed.{sum-put}
 use Rattle.tv_laws_frontier.proofs.Resting.{rests-bare}
 
-entries-same : (u v : List ℤ) → length u ≡ length v → ((k : ℕ) → slice_index_or u k (pos 0) ≡ slice_index_or v k (pos 0)) → u ≡ v
+pub entries-same : (u v : List ℤ) → length u ≡ length v → ((k : ℕ) → slice_index_or u k (pos 0) ≡ slice_index_or v k (pos 0)) → u ≡ v
 entries-same [] [] e same = refl
 entries-same [] (y ∷ v) e same = absurd (omega arith)
 entries-same (x ∷ u) [] e same = absurd (omega arith)
@@ -31,7 +31,7 @@ difference-at (x ∷ u) [] e k = absurd (omega arith)
 difference-at (x ∷ u) (y ∷ v) e zero = refl
 difference-at (x ∷ u) (y ∷ v) e (suc k) = difference-at u v (omega arith) k
 
-part-empty : (w : Web) (k : ℕ) (e : CompactEdge) → part_by w k e [] ≡ pos 0
+pub part-empty : (w : Web) (k : ℕ) (e : CompactEdge) → part_by w k e [] ≡ pos 0
 part-empty w k e = omega (arith, ints)
 
 class-entry : (w : Web) (t : ℕ) (g : List Rows) (b : Assignment) → length b ≡ length (compact w) → rests_on t (compact w) b ≡ true → (k : ℕ) → slice_index_or (class_of w (put (is_new t) (compact w) g b)) k (pos 0) ≡ slice_index_or (class_of w b) k (pos 0) +ℤ slice_index_or (class_of w (new_part w t g)) k (pos 0)

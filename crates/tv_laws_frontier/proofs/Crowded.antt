@@ -72,7 +72,7 @@ kept-crowd w fixed d t i n also within h a among =
 state-members : (w : Web) (d t : ℕ) (k : List Rows) (v : List ℤ) → AllByRecursion (Contains (assignments w d)) (of_state w d t k v)
 state-members w d t k v = all-filter (Contains (assignments w d)) (Contains (assignments w d)) (is_of_state w t k v) (λ a among on. among) (assignments w d) (all-members (assignments w d))
 
-state-class : (w : Web) (t : ℕ) (k : List Rows) (v : List ℤ) (a : Assignment) → is_of_state w t k v a ≡ true → same_vector (class_of w a) v ≡ true
+pub state-class : (w : Web) (t : ℕ) (k : List Rows) (v : List ℤ) (a : Assignment) → is_of_state w t k v a ≡ true → same_vector (class_of w a) v ≡ true
 state-class w t k v a on =
     let parts = and_parts (rests_on t (compact w) a) (same_choice (chosen t (compact w) a) k && same_vector (class_of w a) v) on in
     (and_parts (same_choice (chosen t (compact w) a) k) (same_vector (class_of w a) v) parts.1).1

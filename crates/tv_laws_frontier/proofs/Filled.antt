@@ -21,20 +21,21 @@ up_to k (suc n) top h = (omega arith, up_to (k + 1) n top (omega arith))
 extras_long : (legs : Legs) (side i : ℕ) → AllByRecursion (λ s. length s ≡ i) (extras_of legs side i)
 extras_long legs side i = all-filter (λ (s : List Cell). length s ≡ i) (λ (s : List Cell). length s ≡ i) (is_extras legs) (λ s e h. e) (sublists_of i (cube (side + extent legs))) (sublists_of-length i (cube (side + extent legs)))
 
-no_boxes : (n : ℕ) (b : Bool) → nat_eq n 0 ≡ b → AllByRecursion (λ cells. boxes_of cells ≡ n) (cond b ([] ∷ []) [])
-no_boxes n true e = (let z : 0 ≡ n = grind (arith, nat_tests) in z, tt)
+-- a set for each corner, and n boxes in all
+abbrev pub HasShape : List Legs → ℕ → List (List Cell) → Type 0
+HasShape legs n sets = (length sets ≡ length legs) × (boxes_of sets ≡ n)
+
+no_boxes : (n : ℕ) (b : Bool) → nat_eq n 0 ≡ b → AllByRecursion (HasShape [] n) (cond b ([] ∷ []) [])
+no_boxes n true e = ((refl, let z : 0 ≡ n = grind (arith, nat_tests) in z), tt)
 no_boxes n false e = tt
 
-abbrev HasBoxes : ℕ → List (List Cell) → Type 0
-HasBoxes n sets = boxes_of sets ≡ n
-
-fillings-full : (legs : List Legs) (side n : ℕ) → AllByRecursion (HasBoxes n) (fillings legs side n)
+pub fillings-shaped : (legs : List Legs) (side n : ℕ) → AllByRecursion (HasShape legs n) (fillings legs side n)
 unfolding fillings
-fillings-full [] side n = no_boxes n (nat_eq n 0) refl
-fillings-full (l ∷ legs) side n =
-    all-flat_map (λ (i : ℕ). i ≤ n) (HasBoxes n) (λ (i : ℕ). flat_map (λ (cells : List Cell). map (λ (others : List (List Cell)). cells ∷ others) (fillings legs side (n - i))) (extras_of l side i))
-    (λ (i : ℕ) (h : i ≤ n). all-flat_map (λ (s : List Cell). length s ≡ i) (HasBoxes n) (λ (cells : List Cell). map (λ (others : List (List Cell)). cells ∷ others) (fillings legs side (n - i)))
-    (λ (cells : List Cell) (long : length cells ≡ i). all-map (HasBoxes (n - i)) (HasBoxes n) (λ (others : List (List Cell)). cells ∷ others) (λ others e. filled cells others i n h long e) (fillings legs side (n - i)) (fillings-full legs side (n - i)))
+fillings-shaped [] side n = no_boxes n (nat_eq n 0) refl
+fillings-shaped (l ∷ legs) side n =
+    all-flat_map (λ (i : ℕ). i ≤ n) (HasShape (l ∷ legs) n) (λ (i : ℕ). flat_map (λ (cells : List Cell). map (λ (others : List (List Cell)). cells ∷ others) (fillings legs side (n - i))) (extras_of l side i))
+    (λ (i : ℕ) (h : i ≤ n). all-flat_map (λ (s : List Cell). length s ≡ i) (HasShape (l ∷ legs) n) (λ (cells : List Cell). map (λ (others : List (List Cell)). cells ∷ others) (fillings legs side (n - i)))
+    (λ (cells : List Cell) (long : length cells ≡ i). all-map (HasShape legs (n - i)) (HasShape (l ∷ legs) n) (λ (others : List (List Cell)). cells ∷ others) (λ others e. (ap suc e.0, filled cells others i n h long e.1)) (fillings legs side (n - i)) (fillings-shaped legs side (n - i)))
     (extras_of l side i) (extras_long l side i))
     (below (suc n)) (up_to 0 (suc n) n (omega arith))
   where
@@ -42,7 +43,7 @@ fillings-full (l ∷ legs) side n =
     filled cells others i n h long e = omega arith
 
 pub fillings_of-full : (legs : List Legs) (z : ℤ) → AllByRecursion (λ sets. pos (boxes_of sets) ≡ z) (fillings_of legs z)
-fillings_of-full legs (pos n) = all-onto (HasBoxes n) (λ sets. pos (boxes_of sets) ≡ pos n) (λ sets e. ap pos e) (fillings legs n n) (fillings-full legs n n)
+fillings_of-full legs (pos n) = all-onto (HasShape legs n) (λ sets. pos (boxes_of sets) ≡ pos n) (λ sets e. ap pos e.1) (fillings legs n n) (fillings-shaped legs n n)
 fillings_of-full legs (negsuc n) = tt
 
 pub fillings_of-counted : (legs : List Legs) (z : ℤ) → AllByRecursion AreDiagrams legs → length (fillings_of legs z) ≡ ways_at legs z

@@ -16,3 +16,7 @@ pub mod Classes
 pub mod Stepping
 pub mod Regrouped
 pub mod Step
+pub mod Signed
+pub mod First
+pub mod LastCorner
+pub mod KeptOnes

@@ -105,7 +105,7 @@ state-rests w d t k v =
     (λ a among on. record { among = among; rests = (and_parts (rests_on t (compact w) a) (has_choice w t k a && same_vector (class_of w a) v) on).0 })
     (assignments w d) (all-members (assignments w d))
 
-left-is : (w : Web) (d t : ℕ) (a : Assignment) (i : ℤ) → IsGraded w → IsResting w d t a → partial_boxes_left w t a i ≡ i -ℤ start_after w (no_legs w) t a
+pub left-is : (w : Web) (d t : ℕ) (a : Assignment) (i : ℤ) → IsGraded w → IsResting w d t a → partial_boxes_left w t a i ≡ i -ℤ start_after w (no_legs w) t a
 left-is w d t a i graded is =
     let listed = all-contains (IsListed w d) (assignments w d) a (assignments_listed w d graded) is.among in
     let whole : only (is_met t) (compact w) a ≡ a = only-resting t (compact w) a listed.one_each is.rests in
@@ -124,12 +124,14 @@ on-counted w d t i n graded within h a is =
     ∙ (sym (fillings_of-counted (first_legs w t a) (partial_boxes_left w t a i) (all-front_of AreDiagrams t (all_legs w a (no_legs w)) legs))
     ∙ sym (length-map (fillings_of (first_legs w t a) (partial_boxes_left w t a i)) (configuration a))))
 
-on-signed : (w : Web) (t : ℕ) (i : ℤ) (a : Assignment) → total (partial_sign w t) (partial_on w t a i) ≡ assignment_sign w a i *ℤ pos (length (partial_on w t a i))
-on-signed w t i a =
-    total-alike (partial_sign w t) (assignment_sign w a i) (partial_on w t a i)
-    (all-map (λ (sets : List (List Cell)). pos (boxes_of sets) ≡ partial_boxes_left w t a i) (λ c. partial_sign w t c ≡ assignment_sign w a i) (configuration a)
+pub signs-on : (w : Web) (t : ℕ) (i : ℤ) (a : Assignment) → AllByRecursion (λ c. partial_sign w t c ≡ assignment_sign w a i) (partial_on w t a i)
+signs-on w t i a =
+    all-map (λ (sets : List (List Cell)). pos (boxes_of sets) ≡ partial_boxes_left w t a i) (λ c. partial_sign w t c ≡ assignment_sign w a i) (configuration a)
     (λ sets full. let chi : partial_chi w t (configuration a sets) ≡ i = omega (arith, ints, full) in ap (λ z. sign (z +ℤ edge_twist w a)) chi)
-    (fillings_of (first_legs w t a) (partial_boxes_left w t a i)) (fillings_of-full (first_legs w t a) (partial_boxes_left w t a i)))
+    (fillings_of (first_legs w t a) (partial_boxes_left w t a i)) (fillings_of-full (first_legs w t a) (partial_boxes_left w t a i))
+
+on-signed : (w : Web) (t : ℕ) (i : ℤ) (a : Assignment) → total (partial_sign w t) (partial_on w t a i) ≡ assignment_sign w a i *ℤ pos (length (partial_on w t a i))
+on-signed w t i a = total-alike (partial_sign w t) (assignment_sign w a i) (partial_on w t a i) (signs-on w t i a)
 
 pub kept_are_counted : KeptAreCounted
 unfolding state_number

@@ -48,11 +48,11 @@ listed-choice : (w : Web) (d : ℕ) (a : Assignment) → Contains (assignments w
 unfolding assignments
 listed-choice w d a among = all-contains (IsChoice (weights w (compact w)) d) (choices (weights w (compact w)) d) a (choices_are (weights w (compact w)) d) among
 
-choice-listed : (w : Web) (d : ℕ) (a : Assignment) → IsGraded w → IsChoice (weights w (compact w)) d a → Contains (assignments w d) a
+pub choice-listed : (w : Web) (d : ℕ) (a : Assignment) → IsGraded w → IsChoice (weights w (compact w)) d a → Contains (assignments w d) a
 unfolding assignments
 choice-listed w d a graded is = choice_listed (weights w (compact w)) (weights_positive w (compact w) graded) d a is
 
-listed-long : (w : Web) (d : ℕ) (a : Assignment) → Contains (assignments w d) a → length a ≡ length (compact w)
+pub listed-long : (w : Web) (d : ℕ) (a : Assignment) → Contains (assignments w d) a → length a ≡ length (compact w)
 listed-long w d a among = (listed-choice w d a among).one_each ∙ length-map (compact w) (λ e. as_natural (edge_degree w e))
 
 only-listed : (w : Web) (d : ℕ) (p : CompactEdge → Bool) (a : Assignment) → IsGraded w → Contains (assignments w d) a → Contains (assignments w d) (only p (compact w) a)

@@ -1,23 +1,34 @@
 -- What is true of sums along a frontier, as laws.
 --
 -- KeptAreAll   == through n all ways over the first corners are kept
+-- KeptIsTold   == the test of what is kept is the relation
+-- KeptOnes     == a state's numbers are those of the partial configurations that are kept, whatever m is
+-- KeptOnesSigned == and its signed sums are theirs
+-- ThroughAreKept == through n every partial configuration is kept
 -- KeptArePartial == through n a state's signed sums are the partial sums, with all open edges empty
 -- KeptAreCounted == and its numbers are those of the partial configurations
 -- WholeIsState == once all corners are taken, the one state has the signed counts through n
 -- StepOfState  == one corner more: up to the greatest exponent kept, a state's numbers are the sums over all states before and all
 --                 choices on the new edges, from which it comes, of the convolutions with the counts of the corner
+-- FirstState   == before all corners the one state has 1 at class zero and exponent 0
+-- SignOfState  == a state's signed sums are its numbers, with the sign of class and exponent
+-- StateWithin  == below the lowest, and beyond m, a state has nothing
 -- CrowdOfState == each number of a state, also beyond n, is at most the crowd of its class
-use Rattle.std.specs.Prelude.{◌≡◌, Contains, ℕ, suc, ◌<◌, ◌≤◌, ℤ, pos, ◌-ℤ◌, ◌≤ℤ◌, List, [], filter, length, take}
+use Rattle.std.specs.Prelude.{◌≡◌, ◌⊎◌, Contains, ℕ, suc, ◌<◌, ◌≤◌, ◌↔◌, true, cond, ◌&&◌, int_le, ℤ, pos, ◌-ℤ◌, ◌*ℤ◌, ◌≤ℤ◌, ◌<ℤ◌, List, [], filter, length, take}
 use Rattle.std.specs.List.{AllByRecursion}
-use Rattle.tv_spec_plane.specs.Web.{Web, compact, degree_of}
+use Rattle.std.specs.Ordering.{int_eq}
+use Rattle.tv_lemmas.specs.Sums.{total}
+use Rattle.tv_spec_plane.specs.Web.{Web, compact, degree_of, class_sign}
 use Rattle.tv_spec_plane.specs.Graded.{IsGraded}
 use Rattle.tv_partition.specs.Rows.{IsDiagram}
-use Rattle.tv_spec_boxes.specs.Assignments.{Rows, Assignment, all_legs, no_legs, assignments, same_choice}
+use Rattle.tv_spec_boxes.specs.Assignments.{Rows, Assignment, all_legs, no_legs, zeros, assignments, same_choice, same_vector}
 use Rattle.tv_spec_boxes.specs.Configurations.{Configuration, signed_count}
 use Rattle.tv_spec_boxes.specs.Numbers.{lowest, box_bound, crowd}
-use Rattle.tv_spec_partial.specs.Partial.{chosen, partial_configurations, partial_count}
+use Rattle.tv_spec_partial.specs.Partial.{chosen, partial_configurations, partial_sign, partial_count}
+use Rattle.tv_laws_edges.specs.Rule.{HasEdgeRule}
 use Rattle.tv_laws_counts.specs.Ways.{ways_at}
 use Rattle.tv_laws_frontier.specs.Frontier.{start_after, kept_at, state_number, state_sum, kept_upto}
+use Rattle.tv_laws_frontier.specs.Kept.{IsKept, is_kept, kept_configurations}
 use Rattle.tv_laws_frontier.specs.Steps.{stepped}
 
 abbrev pub KeptAreAll : Type 0
@@ -25,6 +36,27 @@ KeptAreAll =
     (w : Web) (fixed : List Rows) (d t : ℕ) (a : Assignment) (i n : ℤ) → Contains (assignments w d) a → t ≤ length w.triangles →
     i ≤ℤ n →
     kept_at w fixed (kept_upto w fixed d n) t a i ≡ ways_at (take t (all_legs w a fixed)) (i -ℤ start_after w fixed t a)
+
+abbrev pub KeptIsTold : Type 0
+KeptIsTold = (w : Web) (m : ℤ) (t : ℕ) (c : Configuration) → (is_kept w m t c ≡ true) ↔ IsKept w m t c
+
+abbrev pub KeptOnes : Type 0
+KeptOnes =
+    (w : Web) (d : ℕ) (m : ℤ) (t : ℕ) (k : List Rows) (v : List ℤ) (i : ℤ) → IsGraded w → degree_of w.heights v ≤ℤ pos d →
+    t ≤ length w.triangles → state_number w (no_legs w) d m t k v i ≡ length (kept_configurations w m t k v i)
+
+abbrev pub KeptOnesSigned : Type 0
+KeptOnesSigned =
+    (w : Web) (d : ℕ) (m : ℤ) (t : ℕ) (k : List Rows) (v : List ℤ) (i : ℤ) → IsGraded w → degree_of w.heights v ≤ℤ pos d →
+    t ≤ length w.triangles →
+    state_sum w (no_legs w) d m t k v i ≡ total (partial_sign w t) (kept_configurations w m t k v i)
+
+abbrev pub ThroughAreKept : Type 0
+ThroughAreKept =
+    (w : Web) (d t : ℕ) (k : List Rows) (v : List ℤ) (i n : ℤ) → IsGraded w → degree_of w.heights v ≤ℤ pos d →
+    t ≤ length w.triangles → i ≤ℤ n →
+    kept_configurations w (kept_upto w (no_legs w) d n) t k v i
+    ≡ filter (λ (c : Configuration). same_choice (chosen t (compact w) c.diagrams) k) (partial_configurations w t v i)
 
 abbrev pub KeptArePartial : Type 0
 KeptArePartial =
@@ -51,6 +83,22 @@ StepOfState =
     t < length w.triangles → i ≤ℤ kept_upto w fixed d n →
     state_number w fixed d (kept_upto w fixed d n) (suc t) k v i
     ≡ stepped w fixed d (kept_upto w fixed d n) (box_bound n (lowest w fixed d)) t k v i
+
+abbrev pub FirstState : Type 0
+FirstState =
+    (w : Web) (fixed : List Rows) (d : ℕ) (m : ℤ) (v : List ℤ) (i : ℤ) → IsGraded w →
+    state_number w fixed d m 0 [] v i
+    ≡ cond (same_vector (zeros (length w.points)) v && (int_eq i (pos 0) && int_le (pos 0) m)) 1 0
+
+abbrev pub SignOfState : Type 0
+SignOfState =
+    (w : Web) (fixed : List Rows) (d : ℕ) (m : ℤ) (t : ℕ) (k : List Rows) (v : List ℤ) (i : ℤ) → HasEdgeRule w →
+    state_sum w fixed d m t k v i ≡ class_sign w.points v i *ℤ pos (state_number w fixed d m t k v i)
+
+abbrev pub StateWithin : Type 0
+StateWithin =
+    (w : Web) (fixed : List Rows) (d : ℕ) (m : ℤ) (t : ℕ) (k : List Rows) (v : List ℤ) (i : ℤ) →
+    (m <ℤ i) ⊎ (i <ℤ lowest w fixed d) → state_number w fixed d m t k v i ≡ 0
 
 abbrev pub CrowdOfState : Type 0
 CrowdOfState =

@@ -1,6 +1,8 @@
 //! Laws of sums along a frontier: each function does nothing, and its contract is a law.
 
-ghost use Rattle.tv_laws_frontier.specs.Laws.{KeptAreAll, KeptArePartial, KeptAreCounted, WholeIsState, StepOfState, CrowdOfState};
+ghost use Rattle.tv_laws_frontier.specs.Laws.{KeptAreAll, KeptIsTold, KeptOnes, KeptOnesSigned, ThroughAreKept};
+ghost use Rattle.tv_laws_frontier.specs.Laws.{KeptArePartial, KeptAreCounted, WholeIsState, FirstState, StepOfState};
+ghost use Rattle.tv_laws_frontier.specs.Laws.{SignOfState, StateWithin, CrowdOfState};
 
 /// Through n all ways over the first corners are kept.
 pub fn kept_are_all()
@@ -31,4 +33,39 @@ pub fn crowd_bounds_state()
 /// joined to the counts of the corner and added to the state of the choice after it.
 pub fn corner_is_joined()
     ensures { StepOfState }
+{}
+
+/// Before all corners the one state has 1 at class zero and exponent 0.
+pub fn first_state_is_one()
+    ensures { FirstState }
+{}
+
+/// The signed sums of a state are its numbers, with the sign of class and exponent.
+pub fn states_have_signs()
+    ensures { SignOfState }
+{}
+
+/// Below the lowest, and beyond what is kept, a state has nothing.
+pub fn states_are_within()
+    ensures { StateWithin }
+{}
+
+/// A partial configuration is kept where it and each of its restrictions to fewer corners stand low enough: the test is that.
+pub fn kept_is_told()
+    ensures { KeptIsTold }
+{}
+
+/// A state's numbers are those of the partial configurations that are kept, and of no others, also beyond n.
+pub fn kept_ones_are_counted()
+    ensures { KeptOnes }
+{}
+
+/// And its signed sums are theirs.
+pub fn kept_ones_are_summed()
+    ensures { KeptOnesSigned }
+{}
+
+/// Through n every partial configuration is kept.
+pub fn partial_ones_are_kept()
+    ensures { ThroughAreKept }
 {}
