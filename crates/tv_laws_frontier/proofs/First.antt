@@ -33,7 +33,7 @@ use Rattle.tv_laws_frontier.proofs.Regrouped.{choice_equality, choice-listed, li
 none-met : (e : CompactEdge) → is_met 0 e ≡ false
 none-met e = grind (arith, nat_tests)
 
-none-pending : (e : CompactEdge) → is_pending 0 e ≡ false
+pub none-pending : (e : CompactEdge) → is_pending 0 e ≡ false
 none-pending e = grind (arith, nat_tests)
 
 only-nothing : (es : List CompactEdge) (a : Assignment) → length a ≡ length es → only (is_met 0) es a ≡ nothing es
@@ -54,10 +54,10 @@ sum-nothing : (f : CompactEdge → Rows → ℤ) → ((e : CompactEdge) → f e 
 sum-nothing f empty [] = refl
 sum-nothing f empty (e ∷ es) = omega (arith, ints, empty e, sum-nothing f empty es)
 
-nothing-long : (es : List CompactEdge) → length (nothing es) ≡ length es
+pub nothing-long : (es : List CompactEdge) → length (nothing es) ≡ length es
 nothing-long es = length-map es (λ e. [])
 
-nothing-diagrams : (es : List CompactEdge) → AllByRecursion IsDiagram (nothing es)
+pub nothing-diagrams : (es : List CompactEdge) → AllByRecursion IsDiagram (nothing es)
 nothing-diagrams [] = tt
 nothing-diagrams (e ∷ es) = (tt, nothing-diagrams es)
 

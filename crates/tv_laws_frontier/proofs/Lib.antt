@@ -20,3 +20,5 @@ pub mod Signed
 pub mod First
 pub mod LastCorner
 pub mod KeptOnes
+pub mod Joins
+pub mod StateClasses

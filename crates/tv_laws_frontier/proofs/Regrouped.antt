@@ -86,13 +86,13 @@ module _ (w : Web) (d t : ℕ) (k h g : List Rows) (v : List ℤ) (graded : IsGr
   abbrev comes : Assignment → Bool
   comes a = (is_of_state w (suc t) k v a && same_choice (picked (is_pending t) (compact w) a) h) && same_choice (picked (is_new t) (compact w) a) g
 
-  record Comes (a : Assignment) : Type 0 where
-    among : Contains (assignments w d) a
-    rests : rests_on (suc t) (compact w) a ≡ true
-    after : chosen (suc t) (compact w) a ≡ k
-    class : class_of w a ≡ v
-    first : picked (is_pending t) (compact w) a ≡ h
-    new : picked (is_new t) (compact w) a ≡ g
+  pub record Comes (a : Assignment) : Type 0 where
+    pub among : Contains (assignments w d) a
+    pub rests : rests_on (suc t) (compact w) a ≡ true
+    pub after : chosen (suc t) (compact w) a ≡ k
+    pub class : class_of w a ≡ v
+    pub first : picked (is_pending t) (compact w) a ≡ h
+    pub new : picked (is_new t) (compact w) a ≡ g
 
   comes-is : (a : Assignment) → Contains (assignments w d) a → comes a ≡ true → Comes a
   comes-is a among on =
@@ -120,13 +120,13 @@ module _ (w : Web) (d t : ℕ) (k h g : List Rows) (v : List ℤ) (graded : IsGr
       all-true : (x y z u s : Bool) → x ≡ true → y ≡ true → z ≡ true → u ≡ true → s ≡ true → (((x && (y && z)) && u) && s) ≡ true
       all-true x y z u s p q r o i = rw (p, q, r, o, i) refl
 
-  record Goes (b : Assignment) : Type 0 where
-    among : Contains (assignments w d) b
-    rests : rests_on t (compact w) b ≡ true
-    choice : picked (is_pending t) (compact w) b ≡ h
-    class : class_of w b ≡ class_left
+  pub record Goes (b : Assignment) : Type 0 where
+    pub among : Contains (assignments w d) b
+    pub rests : rests_on t (compact w) b ≡ true
+    pub choice : picked (is_pending t) (compact w) b ≡ h
+    pub class : class_of w b ≡ class_left
 
-  goes-is : (b : Assignment) → Contains (assignments w d) b → is_of_state w t h class_left b ≡ true → Goes b
+  pub goes-is : (b : Assignment) → Contains (assignments w d) b → is_of_state w t h class_left b ≡ true → Goes b
   goes-is b among on =
       let state = and_parts (rests_on t (compact w) b) (same_choice (chosen t (compact w) b) h && same_vector (class_of w b) class_left) on in
       let last = and_parts (same_choice (chosen t (compact w) b) h) (same_vector (class_of w b) class_left) state.1 in
@@ -137,7 +137,7 @@ module _ (w : Web) (d t : ℕ) (k h g : List Rows) (v : List ℤ) (graded : IsGr
         class = same_vector_tells (class_of w b) class_left last.1;
       }
 
-  is-goes : (b : Assignment) → Goes b → is_of_state w t h class_left b ≡ true
+  pub is-goes : (b : Assignment) → Goes b → is_of_state w t h class_left b ≡ true
   is-goes b is =
       let choice : same_choice (chosen t (compact w) b) h ≡ true = ap (λ x. same_choice x h) (chosen-is t (compact w) b ∙ is.choice) ∙ choice_equality.own h in
       let class : same_vector (class_of w b) class_left ≡ true = ap (λ u. same_vector u class_left) is.class ∙ same_vector-same class_left in
@@ -155,10 +155,10 @@ module _ (w : Web) (d t : ℕ) (k h g : List Rows) (v : List ℤ) (graded : IsGr
   abbrev more : Assignment → Assignment
   more b = put (is_new t) (compact w) g b
 
-  more-less : (a : Assignment) → Comes a → more (less a) ≡ a
+  pub more-less : (a : Assignment) → Comes a → more (less a) ≡ a
   more-less a is = ap (λ x. put (is_new t) (compact w) x (less a)) (sym is.new) ∙ split-rests t (compact w) a (listed-long w d a is.among) is.rests
 
-  comes-goes : (a : Assignment) → Comes a → Goes (less a)
+  pub comes-goes : (a : Assignment) → Comes a → Goes (less a)
   comes-goes a is =
       let among = only-listed w d (is_met t) a graded is.among in
       let rests = only-rests t (compact w) a in
@@ -170,7 +170,7 @@ module _ (w : Web) (d t : ℕ) (k h g : List Rows) (v : List ℤ) (graded : IsGr
       }
 
   -- the choice after the corner
-  after-is : (b : Assignment) → Goes b → chosen (suc t) (compact w) (more b) ≡ chosen (suc t) (compact w) (near_part w t h g)
+  pub after-is : (b : Assignment) → Goes b → chosen (suc t) (compact w) (more b) ≡ chosen (suc t) (compact w) (near_part w t h g)
   after-is b is =
       let near : Agrees (is_pending (suc t)) (compact w) (more b) (near_part w t (picked (is_pending t) (compact w) b) g) = agrees-fewer (λ e. is_pending t e || is_new t e) (is_pending (suc t)) (pending-near t) (compact w) (more b) (near_part w t (picked (is_pending t) (compact w) b) g) (near-same w no_fixed t within g b (listed-long w d b is.among) new-long is.rests) in
       chosen-is (suc t) (compact w) (more b)
@@ -181,7 +181,7 @@ module _ (w : Web) (d t : ℕ) (k h g : List Rows) (v : List ℤ) (graded : IsGr
       no_fixed : List Rows
       no_fixed = []
 
-  goes-comes : same_choice (chosen (suc t) (compact w) (near_part w t h g)) k ≡ true → (b : Assignment) → Goes b → Comes (more b)
+  pub goes-comes : same_choice (chosen (suc t) (compact w) (near_part w t h g)) k ≡ true → (b : Assignment) → Goes b → Comes (more b)
   goes-comes test b is =
       let long = listed-long w d b is.among in
       let class : class_of w (more b) ≡ v = class-after w t g b v long is.rests is.class in

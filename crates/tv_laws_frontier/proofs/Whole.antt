@@ -35,7 +35,7 @@ none-chosen n [] a all = refl
 none-chosen n (e ∷ es) [] all = refl
 none-chosen n (e ∷ es) (d ∷ a) all = rw (all.0.0, all.0.1) (none-chosen n es a all.1)
 
-of_class : (w : Web) (v : List ℤ) (a : Assignment) → is_of_state w (length w.triangles) [] v a ≡ same_vector (class_of w a) v
+pub of_class : (w : Web) (v : List ℤ) (a : Assignment) → is_of_state w (length w.triangles) [] v a ≡ same_vector (class_of w a) v
 of_class w v a =
     ap (λ b. b && (same_choice (chosen (length w.triangles) (compact w) a) [] && same_vector (class_of w a) v)) (rests-whole (length w.triangles) (compact w) a (compact_inside w))
     ∙ ap (λ ds. same_choice ds [] && same_vector (class_of w a) v) (none-chosen (length w.triangles) (compact w) a (compact_inside w))

@@ -1,6 +1,7 @@
 pub mod Frontier
 pub mod Steps
 pub mod Kept
+pub mod StateClasses
 pub mod Laws
 pub use Rattle.tv_spec_plane.specs.Web
 pub use Rattle.tv_spec_boxes.specs.Assignments

@@ -2,7 +2,7 @@
 
 ghost use Rattle.tv_laws_frontier.specs.Laws.{KeptAreAll, KeptIsTold, KeptOnes, KeptOnesSigned, ThroughAreKept};
 ghost use Rattle.tv_laws_frontier.specs.Laws.{KeptArePartial, KeptAreCounted, WholeIsState, FirstState, StepOfState};
-ghost use Rattle.tv_laws_frontier.specs.Laws.{SignOfState, StateWithin, CrowdOfState};
+ghost use Rattle.tv_laws_frontier.specs.Laws.{EndStates, ClassesStep, WholeClasses, SignOfState, StateWithin, CrowdOfState, CrowdOfJoin, CrowdOfNear};
 
 /// Through n all ways over the first corners are kept.
 pub fn kept_are_all()
@@ -68,4 +68,29 @@ pub fn kept_ones_are_summed()
 /// Through n every partial configuration is kept.
 pub fn partial_ones_are_kept()
     ensures { ThroughAreKept }
+{}
+
+/// Before all corners and after them there is one state.
+pub fn ends_have_one_state()
+    ensures { EndStates }
+{}
+
+/// A state has a class after one corner more exactly where a state before it has what is left of it.
+pub fn classes_are_joined()
+    ensures { ClassesStep }
+{}
+
+/// Once all corners are taken, the one state has the classes of the assignments of degree at most d.
+pub fn whole_classes_are_there()
+    ensures { WholeClasses }
+{}
+
+/// Each join is at most the crowd of the class into which it goes.
+pub fn crowd_bounds_join()
+    ensures { CrowdOfJoin }
+{}
+
+/// Each count of a corner that a join reads is at most the crowd of the class that the corner's edges give it.
+pub fn crowd_bounds_near()
+    ensures { CrowdOfNear }
 {}
