@@ -28,7 +28,7 @@ use Rattle.tv_laws_frontier.proofs.Filters.{sum_of-same}
 use Rattle.tv_laws_frontier.proofs.Parted.{once}
 use Rattle.tv_laws_frontier.proofs.PartialSums.{only-resting}
 use Rattle.tv_laws_frontier.proofs.Picked.{cost-empty}
-use Rattle.tv_laws_frontier.proofs.Regrouped.{choice_equality, choice-listed, listed-long}
+use Rattle.tv_laws_frontier.proofs.Listed.{choice_equality, choice-listed, listed-long}
 
 none-met : (e : CompactEdge) → is_met 0 e ≡ false
 none-met e = grind (arith, nat_tests)

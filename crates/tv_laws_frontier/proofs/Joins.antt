@@ -27,7 +27,7 @@ use Rattle.tv_laws_frontier.proofs.Crowded.{crowd_of_state}
 use Rattle.tv_laws_frontier.proofs.First.{nothing-long, nothing-diagrams}
 use Rattle.tv_laws_frontier.proofs.Kept.{legs-long}
 use Rattle.tv_laws_frontier.proofs.Placed.{put-long, put-diagrams}
-use Rattle.tv_laws_frontier.proofs.Regrouped.{choice_equality, choice-listed}
+use Rattle.tv_laws_frontier.proofs.Listed.{choice_equality, choice-listed}
 use Rattle.tv_laws_frontier.proofs.Step.{step_of_state}
 
 term-below : {A : Type 0} (f : A → ℕ) (x : A) (xs : List A) → Contains xs x → f x ≤ sum_of f xs

@@ -1,4 +1,5 @@
 mod Values
+mod PlaneValues
 pub mod Picked
 pub mod Filters
 pub mod Filled
@@ -14,11 +15,13 @@ pub mod Convolved
 pub mod Resting
 pub mod Classes
 pub mod Stepping
+pub mod Listed
 pub mod Regrouped
 pub mod Step
 pub mod Signed
 pub mod First
 pub mod LastCorner
+pub mod KeptTest
 pub mod KeptOnes
 pub mod Joins
 pub mod StateClasses

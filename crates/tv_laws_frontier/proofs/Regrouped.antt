@@ -32,50 +32,13 @@ use Rattle.tv_laws_frontier.specs.Laws.{StepOfState}
 use Rattle.tv_laws_frontier.proofs.Agreeing.{Agrees, agrees-fewer, agrees-only}
 use Rattle.tv_laws_frontier.proofs.Classes.{class-before, class-after}
 use Rattle.tv_laws_frontier.proofs.Crowded.{none-of}
+use Rattle.tv_laws_frontier.proofs.Listed.{choice_equality, listed-choice, choice-listed, listed-long, only-listed}
 use Rattle.tv_laws_frontier.proofs.Filters.{filter-both, sum_of-same}
 use Rattle.tv_laws_frontier.proofs.Parted.{sum_of-alike, exchanged, parted, carried}
 use Rattle.tv_laws_frontier.proofs.PartialSums.{only-resting}
 use Rattle.tv_laws_frontier.proofs.Placed.{put-long, put-diagrams, picked-put, picked-long, picked-diagrams, picked-degree, only-long, only-diagrams, only-degree, picked-other, agrees-other, agrees-picked}
 use Rattle.tv_laws_frontier.proofs.Resting.{met-apart, pending-apart, pending-near, chosen-is, put-rests, split-rests, only-rests}
 use Rattle.tv_laws_frontier.proofs.Stepping.{near-same, kept-next}
-
-pub choice_equality : IsEquality same_choice
-choice_equality = record { own = pointwise-own same_rows own; tells = pointwise-tells same_rows same_lists }
-
--- ---- members of the lists
-
-listed-choice : (w : Web) (d : ℕ) (a : Assignment) → Contains (assignments w d) a → IsChoice (weights w (compact w)) d a
-unfolding assignments
-listed-choice w d a among = all-contains (IsChoice (weights w (compact w)) d) (choices (weights w (compact w)) d) a (choices_are (weights w (compact w)) d) among
-
-pub choice-listed : (w : Web) (d : ℕ) (a : Assignment) → IsGraded w → IsChoice (weights w (compact w)) d a → Contains (assignments w d) a
-unfolding assignments
-choice-listed w d a graded is = choice_listed (weights w (compact w)) (weights_positive w (compact w) graded) d a is
-
-pub listed-long : (w : Web) (d : ℕ) (a : Assignment) → Contains (assignments w d) a → length a ≡ length (compact w)
-listed-long w d a among = (listed-choice w d a among).one_each ∙ length-map (compact w) (λ e. as_natural (edge_degree w e))
-
-only-listed : (w : Web) (d : ℕ) (p : CompactEdge → Bool) (a : Assignment) → IsGraded w → Contains (assignments w d) a → Contains (assignments w d) (only p (compact w) a)
-only-listed w d p a graded among =
-    let is = listed-choice w d a among in
-    let fewer = only-degree p (λ e. as_natural (edge_degree w e)) (compact w) a in
-    let h = is.within in
-    choice-listed w d (only p (compact w) a) graded (record {
-      one_each = only-long p (compact w) a (listed-long w d a among) ∙ sym (length-map (compact w) (λ e. as_natural (edge_degree w e)));
-      diagrams = only-diagrams p (compact w) a is.diagrams;
-      within = omega arith;
-    })
-
-pub picked-listed : (w : Web) (d : ℕ) (p : CompactEdge → Bool) (a : Assignment) → IsGraded w → Contains (assignments w d) a → Contains (choices_on w p d) (picked p (compact w) a)
-picked-listed w d p a graded among =
-    let is = listed-choice w d a among in
-    let fewer = picked-degree p (λ e. as_natural (edge_degree w e)) (compact w) a in
-    let h = is.within in
-    choice_listed (weights w (filter p (compact w))) (weights_positive w (filter p (compact w)) (all-filter (HasDegree w) (HasDegree w) p (λ e is on. is) (compact w) graded)) d (picked p (compact w) a) (record {
-      one_each = picked-long p (compact w) a (listed-long w d a among) ∙ sym (length-map (filter p (compact w)) (λ e. as_natural (edge_degree w e)));
-      diagrams = picked-diagrams p (compact w) a is.diagrams;
-      within = omega arith;
-    })
 
 -- ---- one state and one option
 

@@ -22,7 +22,8 @@ use Rattle.tv_laws_frontier.specs.Steps.{is_new, picked, put, states, options, n
 use Rattle.tv_laws_frontier.specs.StateClasses.{HasClass, ComesFrom}
 use Rattle.tv_laws_frontier.specs.Laws.{ClassesStep, WholeClasses, EndStates}
 use Rattle.tv_laws_frontier.proofs.First.{none-pending}
-use Rattle.tv_laws_frontier.proofs.Regrouped.{choice_equality, picked-listed, Comes, Goes, comes-goes, goes-comes, goes-is, is-goes, after-is, more-less}
+use Rattle.tv_laws_frontier.proofs.Listed.{choice_equality, picked-listed}
+use Rattle.tv_laws_frontier.proofs.Regrouped.{Comes, Goes, comes-goes, goes-comes, goes-is, is-goes, after-is, more-less}
 use Rattle.tv_laws_frontier.proofs.Resting.{chosen-is}
 use Rattle.tv_laws_frontier.proofs.Whole.{of_class}
 

@@ -18,7 +18,8 @@ use Rattle.tv_laws_frontier.specs.Steps.{is_new, picked, states, options, near_p
 use Rattle.tv_laws_frontier.specs.Laws.{StepOfState}
 use Rattle.tv_laws_frontier.proofs.Filters.{filter-both, sum_of-same}
 use Rattle.tv_laws_frontier.proofs.Parted.{sum_of-alike, parted}
-use Rattle.tv_laws_frontier.proofs.Regrouped.{choice_equality, picked-listed, one-part}
+use Rattle.tv_laws_frontier.proofs.Listed.{choice_equality, picked-listed}
+use Rattle.tv_laws_frontier.proofs.Regrouped.{one-part}
 
 module _ (w : Web) (fixed : List Rows) (d t : ℕ) (k : List Rows) (v : List ℤ) (i n : ℤ) (graded : IsGraded w) (most : degree_of w.heights v ≤ℤ pos d) (within : t < length w.triangles) (low : i ≤ℤ kept_upto w fixed d n) where
   abbrev kept : Assignment → ℕ
