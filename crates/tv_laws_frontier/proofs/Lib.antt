@@ -25,3 +25,4 @@ pub mod KeptTest
 pub mod KeptOnes
 pub mod Joins
 pub mod StateClasses
+pub mod Degrees

@@ -34,7 +34,7 @@ record OfState (w : Web) (d t : ℕ) (k : List Rows) (v : List ℤ) (a : Assignm
 of-state : (w : Web) (d t : ℕ) (k : List Rows) (v : List ℤ) (a : Assignment) → Contains (of_state w d t k v) a → OfState w d t k v a
 of-state w d t k v a there = all-contains (OfState w d t k v) (of_state w d t k v) a (all-filter (Contains (assignments w d)) (OfState w d t k v) (is_of_state w t k v) (λ b among on. record { among = among; on = on }) (assignments w d) (all-members (assignments w d))) there
 
-option-is : (w : Web) (d t : ℕ) (g : List Rows) → Contains (options w d t) g → IsChoice (weights w (filter (is_new t) (compact w))) d g
+pub option-is : (w : Web) (d t : ℕ) (g : List Rows) → Contains (options w d t) g → IsChoice (weights w (filter (is_new t) (compact w))) d g
 option-is w d t g new = all-contains (IsChoice (weights w (filter (is_new t) (compact w))) d) (options w d t) g (choices_are (weights w (filter (is_new t) (compact w))) d) new
 
 told : (w : Web) (t : ℕ) (k : List Rows) (v : List ℤ) (a : Assignment) → rests_on t (compact w) a ≡ true → chosen t (compact w) a ≡ k → class_of w a ≡ v → is_of_state w t k v a ≡ true

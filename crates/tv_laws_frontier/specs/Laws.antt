@@ -19,6 +19,7 @@
 -- StateWithin  == below the lowest, and beyond m, a state has nothing
 -- CrowdOfJoin  == each join is at most the crowd of the class into which it goes
 -- CrowdOfNear  == and each count of the corner that it reads at most that of the class of what the corner sees
+-- JoinsWithin  == nothing is joined where what the corner sees has a degree over d
 -- CrowdOfState == each number of a state, also beyond n, is at most the crowd of its class
 use Rattle.std.specs.Prelude.{◌≡◌, ◌⊎◌, Contains, ℕ, suc, ◌<◌, ◌≤◌, ◌↔◌, true, cond, ◌&&◌, int_le, ℤ, pos, ◌-ℤ◌, ◌*ℤ◌, ◌≤ℤ◌, ◌<ℤ◌, List, [], ◌∷◌, filter, length, take}
 use Rattle.std.specs.List.{AllByRecursion}
@@ -123,6 +124,12 @@ abbrev pub StateWithin : Type 0
 StateWithin =
     (w : Web) (fixed : List Rows) (d : ℕ) (m : ℤ) (t : ℕ) (k : List Rows) (v : List ℤ) (i : ℤ) →
     (m <ℤ i) ⊎ (i <ℤ lowest w fixed d) → state_number w fixed d m t k v i ≡ 0
+
+abbrev pub JoinsWithin : Type 0
+JoinsWithin =
+    (w : Web) (fixed : List Rows) (d t n : ℕ) (h g : List Rows) (v : List ℤ) (m i : ℤ) → IsGraded w →
+    degree_of w.heights v ≤ℤ pos d → t < length w.triangles → Contains (options w d t) g →
+    pos d <ℤ degree_of w.heights (class_of w (near_part w t h g)) → joined w fixed d m n t h g v i ≡ 0
 
 abbrev pub CrowdOfJoin : Type 0
 CrowdOfJoin =

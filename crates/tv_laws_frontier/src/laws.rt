@@ -2,7 +2,8 @@
 
 ghost use Rattle.tv_laws_frontier.specs.Laws.{KeptAreAll, KeptIsTold, KeptOnes, KeptOnesSigned, ThroughAreKept};
 ghost use Rattle.tv_laws_frontier.specs.Laws.{KeptArePartial, KeptAreCounted, WholeIsState, FirstState, StepOfState};
-ghost use Rattle.tv_laws_frontier.specs.Laws.{EndStates, ClassesStep, WholeClasses, SignOfState, StateWithin, CrowdOfState, CrowdOfJoin, CrowdOfNear};
+ghost use Rattle.tv_laws_frontier.specs.Laws.{EndStates, ClassesStep, WholeClasses, SignOfState, StateWithin};
+ghost use Rattle.tv_laws_frontier.specs.Laws.{JoinsWithin, CrowdOfState, CrowdOfJoin, CrowdOfNear};
 
 /// Through n all ways over the first corners are kept.
 pub fn kept_are_all()
@@ -93,4 +94,9 @@ pub fn crowd_bounds_join()
 /// Each count of a corner that a join reads is at most the crowd of the class that the corner's edges give it.
 pub fn crowd_bounds_near()
     ensures { CrowdOfNear }
+{}
+
+/// Where the diagrams at the corner have a degree over d together, nothing is joined.
+pub fn joins_are_within()
+    ensures { JoinsWithin }
 {}
