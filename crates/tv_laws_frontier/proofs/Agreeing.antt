@@ -1,8 +1,8 @@
 -- Assignments that have the same diagrams on the edges that a test picks.
 --
 -- Agrees p es a b == on each edge that p picks both have the same diagram; each has a diagram for each edge
-use Rattle.std.specs.Prelude.{◌≡◌, ℕ, zero, suc, ◌+◌, ◌<◌, ◌≤◌, Bool, true, false, cond, List, [], ◌∷◌, length, slice_index_or, ⊤}
-use Rattle.std.proofs.Common.{refl, sym, ap, ◌∙◌, arith}
+use Rattle.std.specs.Prelude.{◌≡◌, ℕ, zero, suc, ◌<◌, Bool, true, false, cond, List, [], ◌∷◌, length, slice_index_or, ⊤}
+use Rattle.std.proofs.Common.{refl, ap, ◌∙◌, arith}
 use Rattle.tv_spec_plane.specs.declared.records.CompactEdge.{CompactEdge}
 use Rattle.tv_spec_plane.specs.Web.{no_edge}
 use Rattle.tv_spec_boxes.specs.Assignments.{Rows, Assignment}

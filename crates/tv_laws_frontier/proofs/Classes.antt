@@ -1,15 +1,14 @@
 -- The class with diagrams on the new edges is v exactly where the class before is v less that of the new edges.
-use Rattle.std.specs.Prelude.{◌≡◌, ℕ, zero, suc, ◌<◌, true, ℤ, pos, ◌+ℤ◌, ◌-ℤ◌, ◌*ℤ◌, List, [], ◌∷◌, length, map, slice_index_or}
+use Rattle.std.specs.Prelude.{◌≡◌, ℕ, zero, suc, true, ℤ, pos, ◌+ℤ◌, ◌-ℤ◌, List, [], ◌∷◌, length, slice_index_or}
 use Rattle.std.proofs.Common.{refl, sym, ap, ◌∙◌, arith}
 use Rattle.std.proofs.lemmas.Int.{ints}
-use Rattle.std.proofs.lemmas.List.{length-map}
 use Rattle.tv_spec_plane.specs.declared.records.CompactEdge.{CompactEdge}
-use Rattle.tv_spec_plane.specs.Web.{Web, compact, edge_class}
+use Rattle.tv_spec_plane.specs.Web.{Web, compact}
 use Rattle.tv_spec_boxes.specs.Assignments.{Rows, Assignment, class_of, sum_on}
 use Rattle.tv_spec_boxes.proofs.Vectors.{part_by, at-class_on, length-class_of}
 use Rattle.tv_spec_katz.specs.Places.{class_difference}
 use Rattle.tv_spec_partial.specs.Partial.{rests_on}
-use Rattle.tv_laws_frontier.specs.Steps.{is_new, put, nothing, new_part}
+use Rattle.tv_laws_frontier.specs.Steps.{is_new, put, new_part}
 use Rattle.tv_laws_frontier.proofs.Placed.{sum-put}
 use Rattle.tv_laws_frontier.proofs.Resting.{rests-bare}
 

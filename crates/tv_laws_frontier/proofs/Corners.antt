@@ -1,7 +1,7 @@
 -- The legs of a corner are on the edges that have the corner as one of their two.
-use Rattle.std.specs.Prelude.{◌≡◌, ◌⊎◌, Contains, ℕ, zero, suc, ◌+◌, ◌<◌, ◌≤◌, Bool, true, false, cond, ◌&&◌, ◌||◌, nat_eq, nat_lt, List, [], ◌∷◌, ◌++◌, length, map, filter, take, slice_index_or, Option, Some, None}
+use Rattle.std.specs.Prelude.{◌≡◌, ◌⊎◌, Contains, ℕ, zero, suc, ◌+◌, ◌<◌, ◌≤◌, Bool, true, false, cond, ◌&&◌, ◌||◌, nat_eq, nat_lt, List, [], ◌∷◌, ◌++◌, length, take, slice_index_or, Option, Some, None}
 use Rattle.std.specs.List.{filter_map, cons_option, AllByRecursion, position_or_len}
-use Rattle.std.proofs.Common.{refl, sym, ap, ◌∙◌, arith, inl, inr, get_or}
+use Rattle.std.proofs.Common.{refl, sym, ap, ◌∙◌, arith, inl, inr}
 use Rattle.std.proofs.lemmas.Bool.{and_parts}
 use Rattle.std.proofs.lemmas.Bool.Decides.{nat_tests}
 use Rattle.std.proofs.lemmas.List.{get_or-map, take_more, length-map}
@@ -15,7 +15,6 @@ use Rattle.tv_spec_plane.specs.declared.records.EdgeRef.TheVariants.{Compact, Ou
 use Rattle.tv_spec_plane.specs.declared.records.Triple.{Triple}
 use Rattle.tv_spec_plane.specs.Tiling.{triangle_at}
 use Rattle.tv_spec_plane.specs.Web.{Web, compact, outer, compact_by, compact_edge, owners, pairs, below, opposite, has, edge_ref, names_compact, names_outer, rising, corner_of, corners, no_edge}
-use Rattle.tv_cells.specs.declared.legs.Legs.{Legs}
 use Rattle.tv_cells.specs.Extras.{empty_legs}
 use Rattle.tv_spec_boxes.specs.Assignments.{Rows, Assignment, rows_at, legs_of, all_legs}
 use Rattle.tv_laws_frontier.specs.Frontier.{corner_legs}

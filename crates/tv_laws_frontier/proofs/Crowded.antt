@@ -1,5 +1,5 @@
 -- What a state holds is bounded by the crowd of its class, and stands between the lowest and the greatest exponent kept.
-use Rattle.std.specs.Prelude.{◌≡◌, Contains, ℕ, zero, suc, ◌+◌, ◌≤◌, Bool, true, false, cond, ◌&&◌, int_le, ℤ, pos, negsuc, ◌+ℤ◌, ◌-ℤ◌, ◌≤ℤ◌, ◌<ℤ◌, List, [], ◌∷◌, filter, length, take}
+use Rattle.std.specs.Prelude.{◌≡◌, Contains, ℕ, zero, suc, ◌+◌, ◌≤◌, Bool, true, false, ◌&&◌, int_le, ℤ, pos, negsuc, ◌+ℤ◌, ◌-ℤ◌, ◌≤ℤ◌, List, [], ◌∷◌, filter, length, take}
 use Rattle.std.specs.List.{AllByRecursion}
 use Rattle.std.proofs.Common.{refl, sym, ap, ◌∙◌, arith, le_trans}
 use Rattle.std.proofs.lemmas.Int.{ints}
@@ -12,9 +12,9 @@ use Rattle.tv_spec_plane.specs.declared.records.CompactEdge.{CompactEdge}
 use Rattle.tv_spec_plane.specs.Web.{Web, compact, degree_of}
 use Rattle.tv_spec_plane.specs.Graded.{IsGraded}
 use Rattle.tv_partition.specs.Rows.{IsDiagram}
-use Rattle.tv_cells.specs.Extras.{AreDiagrams, count}
-use Rattle.tv_spec_boxes.specs.Assignments.{Rows, Assignment, all_legs, class_of, assignments, assignments_of, sum_on, overlaps_of, same_choice, same_vector}
-use Rattle.tv_spec_boxes.specs.Numbers.{lowest, box_bound, crowd_on, crowd_at, in_degrees, crowd}
+use Rattle.tv_cells.specs.Extras.{count}
+use Rattle.tv_spec_boxes.specs.Assignments.{Rows, Assignment, all_legs, class_of, assignments, sum_on, same_choice, same_vector}
+use Rattle.tv_spec_boxes.specs.Numbers.{lowest, box_bound, crowd_at, in_degrees, crowd}
 use Rattle.tv_spec_boxes.proofs.Vectors.{same_vector_tells}
 use Rattle.tv_spec_partial.specs.Partial.{is_met, rests_on, chosen}
 use Rattle.tv_laws_counts.specs.Ways.{convolved, ways, corner_ways, IsListed}
@@ -25,7 +25,7 @@ use Rattle.tv_laws_counts.proofs.Degrees.{assignments_by_degree, assignments_lis
 use Rattle.tv_laws_counts.proofs.Fillings.{legs_are}
 use Rattle.tv_laws_counts.proofs.SignedCounts.{assignments_have_diagrams}
 use Rattle.tv_cells.specs.Extras.{empty_legs}
-use Rattle.tv_laws_frontier.specs.Frontier.{only, start_after, corner_legs, through, kept_ways, at_number, kept_at, is_of_state, of_state, state_number, kept_upto}
+use Rattle.tv_laws_frontier.specs.Frontier.{only, start_after, corner_legs, kept_ways, at_number, kept_at, is_of_state, of_state, state_number, kept_upto}
 use Rattle.tv_laws_frontier.specs.Laws.{CrowdOfState}
 use Rattle.tv_laws_frontier.proofs.Filters.{sum_of-fewer}
 use Rattle.tv_laws_frontier.proofs.Picked.{rise_by, rise-least, rises-are}
@@ -87,7 +87,7 @@ inside-crowd : (w : Web) (fixed : List Rows) (d t : ℕ) (k : List Rows) (v : Li
 unfolding state_number
 inside-crowd w fixed d t k v i n graded also within h least most =
     let each = sum_of-≤ (λ a. kept_at w fixed (kept_upto w fixed d n) t a i) (crowd_at w fixed d n) (of_state w d t k v)
-        (all-onto (Contains (assignments w d)) (λ a. kept_at w fixed (kept_upto w fixed d n) t a i ≤ crowd_at w fixed d n a) (kept-crowd w fixed d t i n also within h) (of_state w d t k v) (state-members w d t k v)) in
+    (all-onto (Contains (assignments w d)) (λ a. kept_at w fixed (kept_upto w fixed d n) t a i ≤ crowd_at w fixed d n a) (kept-crowd w fixed d t i n also within h) (of_state w d t k v) (state-members w d t k v)) in
     let fewer = sum_of-fewer (crowd_at w fixed d n) (is_of_state w t k v) (λ a. same_vector (class_of w a) v) (state-class w t k v) (assignments w d) in
     let all : sum_of (crowd_at w fixed d n) (filter (λ a. same_vector (class_of w a) v) (assignments w d)) ≡ crowd w fixed d n v = ap (sum_of (crowd_at w fixed d n)) (sym (assignments_by_degree w d v graded most)) ∙ sym (crowd_is w fixed d n v least most) in
     omega arith

@@ -1,6 +1,5 @@
 -- No state is joined where the diagrams at the corner have too great a degree.
-use Rattle.std.specs.Prelude.{◌≡◌, Contains, ℕ, zero, suc, ◌+◌, ◌*◌, ◌<◌, ◌≤◌, Bool, true, false, cond, not, ℤ, pos, ◌+ℤ◌, ◌-ℤ◌, ◌≤ℤ◌, ◌<ℤ◌, List, [], ◌∷◌, map, filter, length}
-use Rattle.std.specs.List.{AllByRecursion}
+use Rattle.std.specs.Prelude.{◌≡◌, Contains, ℕ, zero, suc, ◌+◌, ◌*◌, ◌<◌, Bool, true, false, cond, not, ℤ, pos, ◌-ℤ◌, ◌≤ℤ◌, ◌<ℤ◌, List, [], ◌∷◌, map, length}
 use Rattle.std.proofs.Common.{refl, sym, ap, ◌∙◌, arith}
 use Rattle.std.proofs.lemmas.Int.{ints}
 use Rattle.tv_lemmas.specs.Naturals.{as_natural}
@@ -14,11 +13,11 @@ use Rattle.tv_spec_plane.specs.Web.{Web, compact, edge_degree, degree_of}
 use Rattle.tv_cells.specs.Extras.{count}
 use Rattle.tv_spec_boxes.specs.Assignments.{Rows, Assignment, sum_on, class_of, assignments}
 use Rattle.tv_spec_katz.specs.Places.{class_difference}
-use Rattle.tv_spec_partial.specs.Partial.{is_met, is_pending, rests_on}
-use Rattle.tv_laws_counts.proofs.Choices.{IsChoice, degree_by}
+use Rattle.tv_spec_partial.specs.Partial.{is_pending}
+use Rattle.tv_laws_counts.proofs.Choices.{degree_by}
 use Rattle.tv_laws_counts.proofs.Degrees.{weights, class_of-degree}
 use Rattle.tv_laws_frontier.specs.Frontier.{only, kept_at, is_of_state, of_state, state_number}
-use Rattle.tv_laws_frontier.specs.Steps.{is_new, picked, put, nothing, options, new_part, near_part, near_legs, before, joined}
+use Rattle.tv_laws_frontier.specs.Steps.{is_new, picked, put, nothing, options, new_part, near_part, near_legs, before}
 use Rattle.tv_laws_frontier.specs.Laws.{JoinsWithin}
 use Rattle.tv_laws_frontier.proofs.Classes.{class-after}
 use Rattle.tv_laws_frontier.proofs.Crowded.{none-of}

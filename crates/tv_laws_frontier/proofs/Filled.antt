@@ -3,7 +3,7 @@ use Rattle.std.specs.Prelude.{◌≡◌, ℕ, zero, suc, ◌+◌, ◌-◌, ◌�
 use Rattle.std.specs.List.{flat_map, AllByRecursion, range_with_len}
 use Rattle.std.proofs.Common.{refl, ap, arith}
 use Rattle.std.proofs.lemmas.Bool.Decides.{nat_tests}
-use Rattle.tv_lemmas.proofs.Members.{all-flat_map, all-map, all-filter, all-onto, all-any}
+use Rattle.tv_lemmas.proofs.Members.{all-flat_map, all-map, all-filter, all-onto}
 use Rattle.tv_spec_plane.specs.Web.{below}
 use Rattle.tv_cells.specs.declared.cell.Cell.{Cell}
 use Rattle.tv_cells.specs.declared.legs.Legs.{Legs}

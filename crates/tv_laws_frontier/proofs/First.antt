@@ -1,5 +1,5 @@
 -- Before all corners there is one state, with 1 for the empty assignment.
-use Rattle.std.specs.Prelude.{◌≡◌, Contains, ℕ, zero, suc, ◌+◌, ◌*◌, ◌≤◌, Bool, true, false, cond, not, ◌&&◌, ◌||◌, nat_eq, nat_lt, int_le, ℤ, pos, negsuc, ◌+ℤ◌, ◌-ℤ◌, List, [], ◌∷◌, map, filter, length, slice_index_or}
+use Rattle.std.specs.Prelude.{◌≡◌, Contains, ℕ, zero, suc, ◌+◌, Bool, true, false, cond, ◌&&◌, nat_eq, int_le, ℤ, pos, negsuc, ◌+ℤ◌, ◌-ℤ◌, List, [], ◌∷◌, map, filter, length}
 use Rattle.std.specs.List.{AllByRecursion}
 use Rattle.std.specs.Ordering.{int_eq}
 use Rattle.std.proofs.Common.{refl, sym, ap, ◌∙◌, arith}
@@ -20,7 +20,7 @@ use Rattle.tv_spec_partial.specs.Partial.{is_met, is_pending, rests_on, chosen}
 use Rattle.tv_laws_counts.specs.Ways.{ways}
 use Rattle.tv_laws_counts.proofs.Assigned.{assignments_once}
 use Rattle.tv_laws_counts.proofs.Choices.{degree_by}
-use Rattle.tv_laws_frontier.specs.Frontier.{only, start_after, kept_ways, at_number, kept_at, is_of_state, of_state, state_number}
+use Rattle.tv_laws_frontier.specs.Frontier.{only, start_after, kept_ways, at_number, kept_at, is_of_state, state_number}
 use Rattle.tv_laws_frontier.specs.Steps.{nothing}
 use Rattle.tv_laws_frontier.specs.Laws.{FirstState}
 use Rattle.tv_laws_frontier.proofs.Classes.{entries-same, part-empty}

@@ -1,26 +1,22 @@
 -- Each join, and each count of a corner that it reads, is bounded by a crowd.
-use Rattle.std.specs.Prelude.{◌≡◌, Contains, ℕ, suc, ◌<◌, ◌≤◌, true, cond, ℤ, pos, ◌≤ℤ◌, List, [], ◌∷◌, map, filter, length}
-use Rattle.std.specs.List.{AllByRecursion}
-use Rattle.std.proofs.Common.{refl, sym, ap, ◌∙◌, arith, le_trans}
+use Rattle.std.specs.Prelude.{◌≡◌, Contains, ℕ, suc, ◌≤◌, cond, ℤ, pos, ◌≤ℤ◌, List, filter}
+use Rattle.std.proofs.Common.{sym, ap, ◌∙◌, arith, le_trans}
 use Rattle.std.proofs.lemmas.Int.{ints}
 use Rattle.std.proofs.lemmas.List.{length-map}
 use Rattle.tv_lemmas.specs.Naturals.{as_natural}
 use Rattle.tv_lemmas.specs.Sums.{sum_of}
 use Rattle.tv_lemmas.proofs.Members.{all-at, all-contains, all-members}
 use Rattle.tv_lemmas.proofs.Sums.{sum_of-each}
-use Rattle.tv_partition.specs.Rows.{IsDiagram}
-use Rattle.tv_spec_plane.specs.declared.records.CompactEdge.{CompactEdge}
 use Rattle.tv_spec_plane.specs.Graded.{IsGraded}
 use Rattle.tv_spec_plane.specs.Web.{Web, compact, edge_degree, degree_of}
-use Rattle.tv_cells.specs.declared.legs.Legs.{Legs}
-use Rattle.tv_cells.specs.Extras.{count, empty_legs}
-use Rattle.tv_spec_boxes.specs.Assignments.{Rows, Assignment, all_legs, class_of, assignments, same_choice}
-use Rattle.tv_spec_boxes.specs.Numbers.{lowest, box_bound, crowd}
+use Rattle.tv_cells.specs.Extras.{empty_legs}
+use Rattle.tv_spec_boxes.specs.Assignments.{Rows, all_legs, class_of, assignments, same_choice}
+use Rattle.tv_spec_boxes.specs.Numbers.{lowest, box_bound}
 use Rattle.tv_spec_partial.specs.Partial.{is_pending, chosen}
-use Rattle.tv_laws_counts.proofs.Choices.{IsChoice, degree_by, choices_are}
+use Rattle.tv_laws_counts.proofs.Choices.{IsChoice, choices_are}
 use Rattle.tv_laws_counts.proofs.Crowds.{crowd_of_corner}
 use Rattle.tv_laws_counts.proofs.Degrees.{weights, class_of-degree}
-use Rattle.tv_laws_frontier.specs.Frontier.{state_number, kept_upto}
+use Rattle.tv_laws_frontier.specs.Frontier.{kept_upto}
 use Rattle.tv_laws_frontier.specs.Steps.{is_new, put, nothing, states, options, near_part, near_legs, joined, stepped}
 use Rattle.tv_laws_frontier.specs.Laws.{CrowdOfJoin, CrowdOfNear}
 use Rattle.tv_laws_frontier.proofs.Crowded.{crowd_of_state}

@@ -1,5 +1,5 @@
 -- Through n nothing is dropped: what the later edges and corners lower an exponent by is no more than the lowest says.
-use Rattle.std.specs.Prelude.{◌≡◌, Contains, ℕ, zero, suc, ◌+◌, ◌-◌, ◌≤◌, ◌<◌, Bool, true, false, cond, int_le, ℤ, pos, negsuc, ◌+ℤ◌, ◌-ℤ◌, ◌≤ℤ◌, List, [], ◌∷◌, length, map, take}
+use Rattle.std.specs.Prelude.{◌≡◌, Contains, ℕ, zero, suc, ◌+◌, ◌≤◌, Bool, true, false, cond, int_le, ℤ, pos, negsuc, ◌+ℤ◌, ◌-ℤ◌, ◌≤ℤ◌, List, [], length, take}
 use Rattle.std.proofs.Common.{refl, sym, ap, ◌∙◌, arith}
 use Rattle.std.proofs.lemmas.Int.{ints}
 use Rattle.std.proofs.lemmas.List.{length-map}
@@ -8,14 +8,14 @@ use Rattle.tv_spec_plane.specs.Web.{Web, compact, corners, corner_of}
 use Rattle.tv_cells.specs.declared.legs.Legs.{Legs}
 use Rattle.tv_cells.specs.Costs.{overlap_cost}
 use Rattle.tv_cells.specs.Extras.{count, empty_legs}
-use Rattle.tv_spec_boxes.specs.Assignments.{Rows, Assignment, sum_on, cost_by, edge_costs, legs_of, all_legs, assignments, overlaps_of}
+use Rattle.tv_spec_boxes.specs.Assignments.{Rows, Assignment, sum_on, legs_of, all_legs, assignments, overlaps_of}
 use Rattle.tv_spec_boxes.specs.Numbers.{fall_by, low_of, least, lowest}
 use Rattle.tv_spec_partial.specs.Partial.{is_met}
 use Rattle.tv_laws_counts.specs.Ways.{convolved, ways, corner_ways, ways_at}
 use Rattle.tv_laws_counts.proofs.Bounds.{least-each}
 use Rattle.tv_laws_counts.proofs.Convolutions.{convolved-same}
-use Rattle.tv_laws_counts.proofs.CornerWays.{front-next, front-none}
-use Rattle.tv_laws_frontier.specs.Frontier.{only, start_after, corner_legs, through, kept_ways, at_number, kept_at, kept_upto}
+use Rattle.tv_laws_counts.proofs.CornerWays.{front-next}
+use Rattle.tv_laws_frontier.specs.Frontier.{only, start_after, corner_legs, through, kept_ways, at_number, kept_upto}
 use Rattle.tv_laws_frontier.specs.Laws.{KeptAreAll}
 use Rattle.tv_laws_frontier.proofs.Picked.{rise_by, rise-empty, rise-least, fall-empty, fall-least, more-picked, fewer-picked, falls-most, rises-are, met-later, sum_of-front}
 

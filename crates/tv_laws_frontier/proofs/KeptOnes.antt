@@ -1,37 +1,36 @@
 -- What a state holds is counted by the partial configurations that are kept.
-use Rattle.std.specs.Prelude.{◌≡◌, Contains, ℕ, zero, suc, ◌+◌, ◌<◌, ◌≤◌, ◌↔◌, Bool, true, false, cond, ◌&&◌, nat_eq, int_le, ℤ, pos, negsuc, ◌+ℤ◌, ◌-ℤ◌, ◌*ℤ◌, ◌≤ℤ◌, List, [], ◌∷◌, ◌++◌, map, filter, length, take}
+use Rattle.std.specs.Prelude.{◌≡◌, ℕ, zero, suc, ◌+◌, ◌≤◌, Bool, true, false, cond, ◌&&◌, nat_eq, int_le, ℤ, pos, negsuc, ◌+ℤ◌, ◌-ℤ◌, ◌*ℤ◌, ◌≤ℤ◌, List, [], ◌∷◌, ◌++◌, filter, length, take}
 use Rattle.std.specs.List.{flat_map, AllByRecursion}
-use Rattle.std.proofs.Common.{refl, sym, ap, ◌∙◌, arith, inl, inr}
+use Rattle.std.proofs.Common.{refl, sym, ap, ◌∙◌, arith}
 use Rattle.std.proofs.lemmas.Int.{ints}
-use Rattle.std.proofs.lemmas.Bool.{and_parts, cases_eq}
 use Rattle.std.proofs.lemmas.Bool.Decides.{nat_tests}
 use Rattle.std.proofs.lemmas.List.{take_more, length-map}
-use Rattle.tv_lemmas.specs.Sums.{total, sum_of}
+use Rattle.tv_lemmas.specs.Sums.{total}
 use Rattle.tv_lemmas.proofs.Lists.{filter-map, filter-flat_map, filter-same_on}
-use Rattle.tv_lemmas.proofs.Members.{all-any, all-onto, all-both, all-map, all-filter, all-flat_map, all-contains, all-at, all-members}
-use Rattle.tv_lemmas.proofs.Sums.{total-flat_map, total-same, total-alike, sum_of-append}
+use Rattle.tv_lemmas.proofs.Members.{all-any, all-onto, all-filter, all-contains, all-at}
+use Rattle.tv_lemmas.proofs.Sums.{total-flat_map, total-same, total-alike}
 use Rattle.tv_spec_plane.specs.declared.records.CompactEdge.{CompactEdge}
 use Rattle.tv_spec_plane.specs.Graded.{IsGraded}
-use Rattle.tv_spec_plane.specs.Web.{Web, compact, degree_of, sign}
+use Rattle.tv_spec_plane.specs.Web.{Web, compact, degree_of}
 use Rattle.tv_partition.specs.Rows.{IsDiagram}
 use Rattle.tv_cells.specs.declared.cell.Cell.{Cell}
 use Rattle.tv_cells.specs.declared.legs.Legs.{Legs}
 use Rattle.tv_cells.specs.Extras.{AreDiagrams, count, empty_legs}
-use Rattle.tv_spec_boxes.specs.Assignments.{Rows, Assignment, no_legs, all_legs, edge_costs, edge_twist, overlaps_of, assignments, same_choice}
-use Rattle.tv_spec_boxes.specs.Configurations.{Configuration, configuration, fillings, fillings_of, boxes_of}
+use Rattle.tv_spec_boxes.specs.Assignments.{Rows, Assignment, no_legs, all_legs, overlaps_of, assignments, same_choice}
+use Rattle.tv_spec_boxes.specs.Configurations.{configuration, fillings, fillings_of, boxes_of}
 use Rattle.tv_spec_partial.specs.Partial.{is_met, chosen, first_legs, partial_boxes_left, partial_on, partial_configurations, partial_chi, partial_sign}
-use Rattle.tv_laws_counts.specs.Ways.{convolved, ways, assignment_sign}
+use Rattle.tv_laws_counts.specs.Ways.{ways, assignment_sign}
 use Rattle.tv_laws_counts.proofs.Convolutions.{convolved-same}
 use Rattle.tv_laws_counts.proofs.Fillings.{legs_are}
 use Rattle.tv_laws_counts.proofs.SignedCounts.{assignments_have_diagrams}
 use Rattle.tv_laws_frontier.specs.Frontier.{only, start_after, corner_legs, through, kept_ways, at_number, kept_at, of_state, state_number, state_sum, kept_upto}
-use Rattle.tv_laws_frontier.specs.Kept.{restricted, IsKept, is_low, is_kept, kept_configurations}
+use Rattle.tv_laws_frontier.specs.Kept.{restricted, is_low, is_kept, kept_configurations}
 use Rattle.tv_laws_frontier.specs.Laws.{KeptOnes, KeptOnesSigned, ThroughAreKept}
 use Rattle.tv_laws_frontier.proofs.Agreeing.{Agrees}
 use Rattle.tv_laws_frontier.proofs.Corners.{front-agrees}
-use Rattle.tv_laws_frontier.proofs.Filled.{HasShape, fillings-shaped, fillings_of-full, all-front_of}
+use Rattle.tv_laws_frontier.proofs.Filled.{HasShape, fillings-shaped, all-front_of}
 use Rattle.tv_laws_frontier.proofs.Filters.{length-flat_map, sum_of-same}
-use Rattle.tv_laws_frontier.proofs.Kept.{legs-long, through-within}
+use Rattle.tv_laws_frontier.proofs.Kept.{legs-long}
 use Rattle.tv_laws_frontier.proofs.KeptTest.{passes, passes-front, passes-last}
 use Rattle.tv_laws_frontier.proofs.LastCorner.{last-corner}
 use Rattle.tv_laws_frontier.proofs.PartialSums.{IsResting, state-rests, choice-listed, left-is, no_diagrams, signs-on, kept_are_counted}

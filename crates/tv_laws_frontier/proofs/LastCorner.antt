@@ -1,6 +1,6 @@
 -- Fillings by their sets at the first corners: each set at the last corner goes with each of them.
-use Rattle.std.specs.Prelude.{◌≡◌, ℕ, zero, suc, ◌+◌, ◌-◌, ◌*◌, ◌<◌, ◌≤◌, Bool, true, false, cond, nat_eq, List, [], ◌∷◌, ◌++◌, map, filter, length, take}
-use Rattle.std.specs.List.{flat_map, AllByRecursion, range_with_len}
+use Rattle.std.specs.Prelude.{◌≡◌, ℕ, zero, suc, ◌+◌, ◌-◌, ◌*◌, ◌≤◌, Bool, true, false, cond, nat_eq, List, [], ◌∷◌, ◌++◌, map, filter, length, take}
+use Rattle.std.specs.List.{AllByRecursion}
 use Rattle.std.proofs.Common.{refl, sym, ap, ◌∙◌, arith}
 use Rattle.std.proofs.lemmas.List.{length-map}
 use Rattle.tv_lemmas.specs.Sums.{sum_of}
@@ -12,7 +12,7 @@ use Rattle.tv_cells.specs.declared.cell.Cell.{Cell}
 use Rattle.tv_cells.specs.declared.legs.Legs.{Legs}
 use Rattle.tv_cells.specs.Extras.{AreDiagrams, count}
 use Rattle.tv_spec_boxes.specs.Configurations.{extras_of, fillings}
-use Rattle.tv_laws_counts.specs.Ways.{split, convolved, ways}
+use Rattle.tv_laws_counts.specs.Ways.{convolved, ways}
 use Rattle.tv_laws_counts.proofs.Convolutions.{after_first, total_below-front, convolved-same, convolved-none, convolved-first, convolved-swap}
 use Rattle.tv_laws_counts.proofs.Fillings.{with_first, fillings_counted}
 use Rattle.tv_laws_counts.proofs.Lists.{length-numbered}

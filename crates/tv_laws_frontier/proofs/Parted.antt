@@ -1,9 +1,9 @@
 -- Sums parted by a key, sums exchanged, and sums carried from members to members.
-use Rattle.std.specs.Prelude.{◌≡◌, Contains, ℕ, zero, suc, ◌+◌, ◌*◌, ◌<◌, ◌≤◌, Bool, true, false, cond, List, [], ◌∷◌, map, filter}
+use Rattle.std.specs.Prelude.{◌≡◌, Contains, ℕ, zero, suc, ◌+◌, ◌*◌, ◌<◌, Bool, true, false, cond, List, [], ◌∷◌, map, filter}
 use Rattle.std.specs.List.{AllByRecursion, IsDistinct}
 use Rattle.std.proofs.Common.{refl, sym, ap, ◌∙◌, arith, inl, inr}
 use Rattle.tv_lemmas.specs.Sums.{sum_of}
-use Rattle.tv_lemmas.proofs.Members.{all-any, all-onto, all-map, all-both, all-filter, all-contains, all-members, contains-cases, contains-head, contains-later, contains-map, contains-filter}
+use Rattle.tv_lemmas.proofs.Members.{all-any, all-map, all-both, all-filter, all-contains, all-members, contains-cases, contains-head, contains-later, contains-map, contains-filter}
 use Rattle.tv_lemmas.proofs.Distinct.{distinct-filter}
 use Rattle.tv_lemmas.proofs.Permuted.{places, Permuted, IsEquality, permuted-sum_of}
 use Rattle.tv_ring.specs.Sums.{total_below}
@@ -124,9 +124,9 @@ module _ {B : Type 0} (same : B → B → Bool) (equality : IsEquality same) whe
         by_test : (b : Bool) → same (g x) (g y) ≡ b → b ≡ false
         by_test false e = refl
         by_test true e = absurd (
-          let equal : x ≡ y = sym (back x is.0 is.1).2 ∙ (ap f (equality.tells (g x) (g y) e) ∙ (back y also.0 also.1).2) in
-          let own : same x y ≡ true = ap (same x) (sym equal) ∙ equality.own x in
-          let no : false ≡ true = sym differs ∙ own in cc)
+            let equal : x ≡ y = sym (back x is.0 is.1).2 ∙ (ap f (equality.tells (g x) (g y) e) ∙ (back y also.0 also.1).2) in
+            let own : same x y ≡ true = ap (same x) (sym equal) ∙ equality.own x in
+            let no : false ≡ true = sym differs ∙ own in cc)
 
     pub carried : (F : B → ℕ) → sum_of F (filter p L) ≡ sum_of (λ y. F (g y)) (filter q L)
     carried F =

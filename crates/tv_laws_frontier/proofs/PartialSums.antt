@@ -1,14 +1,14 @@
 -- Through n the sums of a state are the partial sums.
-use Rattle.std.specs.Prelude.{◌≡◌, Contains, ℕ, suc, ◌≤◌, Bool, true, false, cond, ◌&&◌, ◌||◌, ℤ, pos, ◌+ℤ◌, ◌-ℤ◌, ◌*ℤ◌, ◌≤ℤ◌, List, [], ◌∷◌, map, filter, length, take}
+use Rattle.std.specs.Prelude.{◌≡◌, Contains, ℕ, ◌≤◌, Bool, true, false, cond, ◌&&◌, ◌||◌, ℤ, pos, ◌+ℤ◌, ◌-ℤ◌, ◌*ℤ◌, ◌≤ℤ◌, List, [], ◌∷◌, map, filter, length}
 use Rattle.std.specs.List.{flat_map, AllByRecursion}
 use Rattle.std.proofs.Common.{refl, sym, ap, ◌∙◌, arith}
 use Rattle.std.proofs.lemmas.Int.{ints}
 use Rattle.std.proofs.lemmas.Bool.{and_parts}
 use Rattle.std.proofs.lemmas.Bool.Decides.{nat_tests}
 use Rattle.std.proofs.lemmas.List.{length-map}
-use Rattle.tv_lemmas.specs.Sums.{total, sum_of}
+use Rattle.tv_lemmas.specs.Sums.{total}
 use Rattle.tv_lemmas.proofs.Sums.{total-flat_map, total-same, total-alike}
-use Rattle.tv_lemmas.proofs.Members.{all-any, all-onto, all-map, all-filter, all-both, all-contains, all-members}
+use Rattle.tv_lemmas.proofs.Members.{all-any, all-onto, all-map, all-filter, all-contains, all-members}
 use Rattle.tv_lemmas.proofs.Lists.{filter-flat_map, flat_map-same, flat_map-filter}
 use Rattle.tv_spec_plane.specs.declared.records.CompactEdge.{CompactEdge}
 use Rattle.tv_spec_plane.specs.declared.records.OuterEdge.{OuterEdge}
@@ -17,9 +17,8 @@ use Rattle.tv_spec_plane.specs.Graded.{IsGraded}
 use Rattle.tv_partition.specs.Rows.{IsDiagram}
 use Rattle.tv_cells.specs.declared.cell.Cell.{Cell}
 use Rattle.tv_cells.specs.Extras.{AreDiagrams}
-use Rattle.tv_spec_boxes.specs.Assignments.{Rows, Assignment, no_legs, all_legs, class_of, edge_costs, edge_twist, overlaps_of, assignments, assignments_of, same_choice, same_vector}
+use Rattle.tv_spec_boxes.specs.Assignments.{Rows, Assignment, no_legs, all_legs, class_of, edge_costs, edge_twist, assignments, assignments_of, same_choice, same_vector}
 use Rattle.tv_spec_boxes.specs.Configurations.{Configuration, configuration, fillings_of, boxes_of}
-use Rattle.tv_spec_boxes.specs.Numbers.{lowest}
 use Rattle.tv_spec_partial.specs.Partial.{is_met, is_empty, rests_on, chosen, first_legs, partial_boxes_left, partial_on, partial_configurations, partial_chi, partial_sign, partial_count}
 use Rattle.tv_laws_counts.specs.Ways.{ways_at, assignment_sign, IsListed}
 use Rattle.tv_laws_counts.proofs.Degrees.{assignments_by_degree, assignments_listed}

@@ -1,7 +1,7 @@
 -- Sums over the edges that are picked from an assignment.
-use Rattle.std.specs.Prelude.{◌≡◌, ℕ, zero, suc, ◌≤◌, ◌<◌, Bool, true, false, cond, ◌||◌, nat_lt, ℤ, pos, ◌+ℤ◌, ◌-ℤ◌, ◌≤ℤ◌, List, [], ◌∷◌, take}
+use Rattle.std.specs.Prelude.{◌≡◌, ℕ, zero, suc, ◌≤◌, Bool, true, false, cond, ℤ, pos, ◌-ℤ◌, ◌≤ℤ◌, List, [], ◌∷◌, take}
 use Rattle.std.specs.Int.{int_min}
-use Rattle.std.proofs.Common.{refl, ap, ◌∙◌, arith}
+use Rattle.std.proofs.Common.{refl, arith}
 use Rattle.std.proofs.lemmas.Int.{ints}
 use Rattle.std.proofs.lemmas.Bool.Decides.{nat_tests}
 use Rattle.tv_lemmas.specs.Sums.{sum_of}
@@ -10,7 +10,7 @@ use Rattle.tv_spec_plane.specs.Web.{Web}
 use Rattle.tv_cells.specs.Costs.{rows_cost}
 use Rattle.tv_spec_boxes.specs.Assignments.{Rows, Assignment, sum_on, cost_by}
 use Rattle.tv_spec_boxes.specs.Numbers.{fall_by}
-use Rattle.tv_spec_partial.specs.Partial.{is_met, rests_on}
+use Rattle.tv_spec_partial.specs.Partial.{is_met}
 use Rattle.tv_laws_frontier.specs.Frontier.{only}
 
 -- what a diagram raises the Euler characteristic by, beyond its fall

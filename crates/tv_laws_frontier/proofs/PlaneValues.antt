@@ -1,5 +1,5 @@
 -- Worked values of states: local P^2 after its first corner, in degree 2 through exponent 0, where the lowest is -1.
-use Rattle.std.specs.Prelude.{◌≡◌, ℕ, pos, negsuc, true, false, [], ◌∷◌, map, length, refl}
+use Rattle.std.specs.Prelude.{◌≡◌, pos, negsuc, true, false, [], ◌∷◌, map, refl}
 use Rattle.tv_ring.specs.Sums.{total_below}
 use Rattle.tv_spec_plane.specs.Plane.{turn}
 use Rattle.tv_spec_plane.specs.Web.{compact, outer, edge_ref, edge_ratio}
@@ -9,11 +9,11 @@ use Rattle.tv_cells.specs.Cells.{cell, cube, sublists_of}
 use Rattle.tv_cells.specs.Costs.{row_cost, rows_cost, overlap_cost, overlaps}
 use Rattle.tv_cells.specs.Extras.{count}
 use Rattle.tv_spec_boxes.specs.Assignments.{no_legs, assignments, choices}
-use Rattle.tv_spec_boxes.specs.Configurations.{configuration, fillings}
+use Rattle.tv_spec_boxes.specs.Configurations.{configuration}
 use Rattle.tv_spec_boxes.specs.Numbers.{least, lowest}
 use Rattle.tv_laws_counts.specs.Ways.{split, convolved, ways}
 use Rattle.tv_laws_frontier.specs.Frontier.{kept_ways, state_sum, kept_upto}
-use Rattle.tv_laws_frontier.specs.Kept.{is_kept, kept_configurations}
+use Rattle.tv_laws_frontier.specs.Kept.{is_kept}
 
 plane_lowest : lowest local_p2 (no_legs local_p2) 2 ≡ negsuc 0
 unfolding local_p2 assignments choices compact outer edge_ref edge_ratio turn diagrams diagrams_within cube row_cost rows_cost overlap_cost overlaps lowest least

@@ -1,42 +1,34 @@
 -- The numbers of a state after one corner more are sums over the states before and the diagrams on the new edges.
-use Rattle.std.specs.Prelude.{◌≡◌, Contains, ℕ, zero, suc, ◌+◌, ◌*◌, ◌<◌, ◌≤◌, Bool, true, false, cond, ◌&&◌, ◌||◌, ℤ, pos, ◌+ℤ◌, ◌-ℤ◌, ◌≤ℤ◌, List, [], ◌∷◌, length, map, filter}
-use Rattle.std.specs.List.{AllByRecursion, IsDistinct}
+use Rattle.std.specs.Prelude.{◌≡◌, Contains, ℕ, suc, ◌*◌, ◌<◌, Bool, true, false, cond, ◌&&◌, ◌||◌, ℤ, pos, ◌-ℤ◌, ◌≤ℤ◌, List, [], length, filter}
 use Rattle.std.proofs.Common.{refl, sym, ap, ◌∙◌, arith}
 use Rattle.std.proofs.lemmas.Int.{ints}
 use Rattle.std.proofs.lemmas.Bool.{and_parts}
 use Rattle.std.proofs.lemmas.List.{length-map}
 use Rattle.tv_lemmas.specs.Naturals.{as_natural}
 use Rattle.tv_lemmas.specs.Sums.{sum_of}
-use Rattle.tv_lemmas.proofs.Distinct.{pointwise-tells}
-use Rattle.tv_lemmas.proofs.Lists.{pointwise-own}
-use Rattle.tv_lemmas.proofs.Members.{all-onto, all-filter, all-contains, all-members}
-use Rattle.tv_lemmas.proofs.Permuted.{IsEquality}
-use Rattle.tv_partition.proofs.Members.{same_lists}
-use Rattle.tv_partition.specs.Rows.{IsDiagram}
+use Rattle.tv_lemmas.proofs.Members.{all-filter, all-members}
 use Rattle.tv_ring.specs.Sums.{total_below}
-use Rattle.tv_spec_plane.specs.declared.records.CompactEdge.{CompactEdge}
-use Rattle.tv_spec_plane.specs.Graded.{HasDegree, IsGraded}
+use Rattle.tv_spec_plane.specs.Graded.{IsGraded}
 use Rattle.tv_spec_plane.specs.Web.{Web, compact, edge_degree, degree_of}
 use Rattle.tv_cells.specs.Extras.{count}
-use Rattle.tv_spec_boxes.specs.Assignments.{Rows, Assignment, class_of, choices, assignments, same_rows, same_choice, same_vector}
+use Rattle.tv_spec_boxes.specs.Assignments.{Rows, Assignment, class_of, assignments, same_choice, same_vector}
 use Rattle.tv_spec_boxes.specs.Numbers.{lowest, box_bound}
 use Rattle.tv_spec_boxes.proofs.Vectors.{same_vector-same, same_vector_tells}
 use Rattle.tv_spec_katz.specs.Places.{class_difference}
 use Rattle.tv_spec_partial.specs.Partial.{is_met, is_pending, rests_on, chosen}
-use Rattle.tv_laws_counts.proofs.Assigned.{choice_listed, choices-once, assignments_once}
-use Rattle.tv_laws_counts.proofs.Choices.{IsChoice, degree_by, own, choices_are}
-use Rattle.tv_laws_counts.proofs.Degrees.{weights, weights_positive, class_of-degree}
+use Rattle.tv_laws_counts.proofs.Assigned.{assignments_once}
+use Rattle.tv_laws_counts.proofs.Choices.{IsChoice, degree_by}
+use Rattle.tv_laws_counts.proofs.Degrees.{weights, class_of-degree}
 use Rattle.tv_laws_frontier.specs.Frontier.{only, kept_at, is_of_state, of_state, state_number, kept_upto}
-use Rattle.tv_laws_frontier.specs.Steps.{is_new, picked, put, nothing, choices_on, states, options, new_part, near_part, near_legs, before, joined, stepped}
-use Rattle.tv_laws_frontier.specs.Laws.{StepOfState}
+use Rattle.tv_laws_frontier.specs.Steps.{is_new, picked, put, new_part, near_part, near_legs, before, joined}
 use Rattle.tv_laws_frontier.proofs.Agreeing.{Agrees, agrees-fewer, agrees-only}
 use Rattle.tv_laws_frontier.proofs.Classes.{class-before, class-after}
 use Rattle.tv_laws_frontier.proofs.Crowded.{none-of}
 use Rattle.tv_laws_frontier.proofs.Listed.{choice_equality, listed-choice, choice-listed, listed-long, only-listed}
-use Rattle.tv_laws_frontier.proofs.Filters.{filter-both, sum_of-same}
-use Rattle.tv_laws_frontier.proofs.Parted.{sum_of-alike, exchanged, parted, carried}
+use Rattle.tv_laws_frontier.proofs.Filters.{sum_of-same}
+use Rattle.tv_laws_frontier.proofs.Parted.{exchanged, carried}
 use Rattle.tv_laws_frontier.proofs.PartialSums.{only-resting}
-use Rattle.tv_laws_frontier.proofs.Placed.{put-long, put-diagrams, picked-put, picked-long, picked-diagrams, picked-degree, only-long, only-diagrams, only-degree, picked-other, agrees-other, agrees-picked}
+use Rattle.tv_laws_frontier.proofs.Placed.{put-long, put-diagrams, picked-put, picked-other, agrees-other, agrees-picked}
 use Rattle.tv_laws_frontier.proofs.Resting.{met-apart, pending-apart, pending-near, chosen-is, put-rests, split-rests, only-rests}
 use Rattle.tv_laws_frontier.proofs.Stepping.{near-same, kept-next}
 
@@ -151,10 +143,10 @@ module _ (w : Web) (d t : ℕ) (k h g : List Rows) (v : List ℤ) (graded : IsGr
       let degree : degree_of w.heights v ≡ pos (degree_by (weights w (compact w)) (more b)) = ap (degree_of w.heights) (sym class) ∙ class_of-degree w graded (more b) in
       record {
         among = choice-listed w d (more b) graded (record {
-            one_each = put-long (is_new t) (compact w) g b ∙ (listed-choice w d b is.among).one_each;
-            diagrams = put-diagrams (is_new t) (compact w) g b is_option.diagrams (listed-choice w d b is.among).diagrams;
-            within = omega (arith, ints);
-          });
+          one_each = put-long (is_new t) (compact w) g b ∙ (listed-choice w d b is.among).one_each;
+          diagrams = put-diagrams (is_new t) (compact w) g b is_option.diagrams (listed-choice w d b is.among).diagrams;
+          within = omega (arith, ints);
+        });
         rests = put-rests t (compact w) g b is.rests;
         after = after-is b is ∙ choice_equality.tells (chosen (suc t) (compact w) (near_part w t h g)) k test;
         class = class;

@@ -1,16 +1,16 @@
 -- Assignments that have the empty diagram off some edges; edges that are met, pending and new.
-use Rattle.std.specs.Prelude.{◌≡◌, ◌⊎◌, ℕ, suc, ◌<◌, Bool, true, false, cond, not, ◌&&◌, ◌||◌, nat_eq, nat_lt, List, [], ◌∷◌, length, ⊤}
-use Rattle.std.proofs.Common.{refl, sym, ap, ◌∙◌, arith, inl, inr}
+use Rattle.std.specs.Prelude.{◌≡◌, ℕ, suc, ◌<◌, Bool, true, false, cond, not, ◌&&◌, ◌||◌, nat_eq, nat_lt, List, [], ◌∷◌, length}
+use Rattle.std.proofs.Common.{refl, sym, ap, ◌∙◌, arith}
 use Rattle.std.proofs.lemmas.Bool.{and_parts}
 use Rattle.std.proofs.lemmas.Bool.Decides.{nat_tests}
 use Rattle.tv_spec_plane.specs.declared.records.CompactEdge.{CompactEdge}
 use Rattle.tv_spec_boxes.specs.Assignments.{Rows, Assignment}
 use Rattle.tv_spec_partial.specs.Partial.{is_met, is_pending, is_empty, rests_on, chosen}
 use Rattle.tv_laws_frontier.specs.Frontier.{only}
-use Rattle.tv_laws_frontier.specs.Steps.{is_new, picked, put, nothing}
+use Rattle.tv_laws_frontier.specs.Steps.{is_new, picked, put}
 use Rattle.tv_laws_frontier.proofs.Corners.{touches}
 use Rattle.tv_laws_frontier.proofs.PartialSums.{empty-rows}
-use Rattle.tv_laws_frontier.proofs.Placed.{Stays, put-skip, put-none}
+use Rattle.tv_laws_frontier.proofs.Placed.{Stays, put-skip}
 
 -- ---- edges
 

@@ -1,18 +1,18 @@
 -- The sign of a state's sums, and where a state has nothing.
-use Rattle.std.specs.Prelude.{◌≡◌, ◌⊎◌, Contains, ℕ, zero, suc, ◌+◌, true, false, cond, ◌&&◌, int_le, ℤ, pos, negsuc, ◌+ℤ◌, ◌-ℤ◌, ◌*ℤ◌, ◌≤ℤ◌, ◌<ℤ◌, List, [], ◌∷◌}
+use Rattle.std.specs.Prelude.{◌≡◌, ◌⊎◌, Contains, ℕ, zero, suc, ◌+◌, false, int_le, ℤ, pos, negsuc, ◌+ℤ◌, ◌-ℤ◌, ◌*ℤ◌, ◌<ℤ◌, List, [], ◌∷◌}
 use Rattle.std.specs.List.{AllByRecursion}
 use Rattle.std.proofs.Common.{refl, sym, ap, ◌∙◌, arith, inl, inr}
 use Rattle.std.proofs.lemmas.Int.{ints}
 use Rattle.tv_lemmas.specs.Sums.{total, sum_of}
 use Rattle.tv_lemmas.proofs.Integers.{mul-add}
-use Rattle.tv_lemmas.proofs.Members.{all-any, all-filter, all-members}
+use Rattle.tv_lemmas.proofs.Members.{all-filter, all-members}
 use Rattle.tv_lemmas.proofs.Sums.{total-same}
 use Rattle.tv_spec_plane.specs.Web.{Web, even_sum, class_sign}
 use Rattle.tv_laws_edges.specs.Rule.{HasEdgeRule}
 use Rattle.tv_laws_edges.proofs.Parity.{is_even, eqv, sign_by, is_even-add}
 use Rattle.tv_laws_signs.proofs.EvenSums.{class_of-even}
 use Rattle.tv_cells.specs.Extras.{count}
-use Rattle.tv_spec_boxes.specs.Assignments.{Rows, Assignment, class_of, edge_twist, assignments, same_vector}
+use Rattle.tv_spec_boxes.specs.Assignments.{Rows, Assignment, class_of, edge_twist, assignments}
 use Rattle.tv_spec_boxes.specs.Numbers.{lowest}
 use Rattle.tv_spec_boxes.proofs.Vectors.{same_vector_tells}
 use Rattle.tv_laws_counts.specs.Ways.{convolved, ways, assignment_sign}

@@ -1,7 +1,6 @@
 -- Which classes a state has, and the one state before all corners and after them.
-use Rattle.std.specs.Prelude.{◌≡◌, Contains, ℕ, suc, ◌<◌, ◌≤◌, ◌↔◌, Bool, true, false, cond, not, ◌&&◌, nat_lt, ℤ, pos, ◌≤ℤ◌, List, [], ◌∷◌, map, filter, length}
-use Rattle.std.specs.List.{AllByRecursion}
-use Rattle.std.proofs.Common.{refl, sym, ap, ◌∙◌, arith}
+use Rattle.std.specs.Prelude.{◌≡◌, Contains, ℕ, suc, ◌<◌, Bool, true, false, cond, not, ◌&&◌, nat_lt, ℤ, pos, ◌≤ℤ◌, List, [], ◌∷◌, map, filter, length}
+use Rattle.std.proofs.Common.{refl, sym, ap, ◌∙◌}
 use Rattle.std.proofs.lemmas.Bool.{and_parts}
 use Rattle.tv_lemmas.specs.Naturals.{as_natural}
 use Rattle.tv_lemmas.proofs.Lists.{filter-none, filter-none_on}
@@ -10,7 +9,6 @@ use Rattle.tv_spec_plane.specs.declared.records.CompactEdge.{CompactEdge}
 use Rattle.tv_spec_plane.specs.Graded.{IsGraded}
 use Rattle.tv_spec_plane.specs.Web.{Web, compact, edge_degree, degree_of}
 use Rattle.tv_spec_boxes.specs.Assignments.{Rows, Assignment, class_of, choices, assignments, same_choice, same_vector}
-use Rattle.tv_spec_boxes.specs.Classes.{IsClass}
 use Rattle.tv_spec_boxes.proofs.Vectors.{same_vector-same, same_vector_tells}
 use Rattle.tv_spec_katz.specs.Places.{class_difference}
 use Rattle.tv_spec_partial.specs.Partial.{is_met, is_pending, chosen, rests_on}
@@ -18,13 +16,12 @@ use Rattle.tv_laws_counts.proofs.Choices.{IsChoice, choices_are}
 use Rattle.tv_laws_counts.proofs.Degrees.{weights}
 use Rattle.tv_laws_signs.proofs.Whole.{compact_inside}
 use Rattle.tv_laws_frontier.specs.Frontier.{only, is_of_state, of_state}
-use Rattle.tv_laws_frontier.specs.Steps.{is_new, picked, put, states, options, new_part, near_part}
+use Rattle.tv_laws_frontier.specs.Steps.{is_new, picked, put, options, new_part, near_part}
 use Rattle.tv_laws_frontier.specs.StateClasses.{HasClass, ComesFrom}
 use Rattle.tv_laws_frontier.specs.Laws.{ClassesStep, WholeClasses, EndStates}
 use Rattle.tv_laws_frontier.proofs.First.{none-pending}
 use Rattle.tv_laws_frontier.proofs.Listed.{choice_equality, picked-listed}
 use Rattle.tv_laws_frontier.proofs.Regrouped.{Comes, Goes, comes-goes, goes-comes, goes-is, is-goes, after-is, more-less}
-use Rattle.tv_laws_frontier.proofs.Resting.{chosen-is}
 use Rattle.tv_laws_frontier.proofs.Whole.{of_class}
 
 record OfState (w : Web) (d t : ℕ) (k : List Rows) (v : List ℤ) (a : Assignment) : Type 0 where
@@ -94,9 +91,10 @@ classes_step w d t k v graded most within =
 -- ---- before all corners, and after them
 
 pub whole_classes : WholeClasses
-whole_classes w d v =
-    ((λ has. let of = of-state w d (length w.triangles) [] v has.witness has.listed in record { witness = has.witness; listed = of.among; same = same_vector_tells (class_of w has.witness) v (sym (of_class w v has.witness) ∙ of.on) }),
-    (λ is. record { witness = is.witness; listed = contains-filter (is_of_state w (length w.triangles) [] v) is.witness (assignments w d) is.listed (of_class w v is.witness ∙ (ap (λ u. same_vector u v) is.same ∙ same_vector-same v)) }))
+whole_classes w d v = (
+  (λ has. let of = of-state w d (length w.triangles) [] v has.witness has.listed in record { witness = has.witness; listed = of.among; same = same_vector_tells (class_of w has.witness) v (sym (of_class w v has.witness) ∙ of.on) }),
+  (λ is. record { witness = is.witness; listed = contains-filter (is_of_state w (length w.triangles) [] v) is.witness (assignments w d) is.listed (of_class w v is.witness ∙ (ap (λ u. same_vector u v) is.same ∙ same_vector-same v)) }),
+)
 
 both-taken : (b c : Bool) → b ≡ true → c ≡ true → cond b (not c) c ≡ false
 both-taken b c p q = rw (p, q) refl

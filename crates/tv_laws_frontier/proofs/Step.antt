@@ -1,12 +1,11 @@
 -- One corner more: by the choice before it and the diagrams on the new edges.
-use Rattle.std.specs.Prelude.{◌≡◌, Contains, ℕ, suc, ◌<◌, true, cond, ◌&&◌, ℤ, pos, ◌≤ℤ◌, List, length, map, filter}
+use Rattle.std.specs.Prelude.{◌≡◌, Contains, ℕ, suc, ◌<◌, cond, ◌&&◌, ℤ, pos, ◌≤ℤ◌, List, length, filter}
 use Rattle.std.specs.List.{AllByRecursion}
-use Rattle.std.proofs.Common.{sym, ap, ◌∙◌}
-use Rattle.tv_lemmas.specs.Naturals.{as_natural}
+use Rattle.std.proofs.Common.{ap, ◌∙◌}
 use Rattle.tv_lemmas.specs.Sums.{sum_of}
 use Rattle.tv_lemmas.proofs.Members.{all-filter, all-onto, all-members}
 use Rattle.tv_spec_plane.specs.Graded.{IsGraded}
-use Rattle.tv_spec_plane.specs.Web.{Web, compact, edge_degree, degree_of}
+use Rattle.tv_spec_plane.specs.Web.{Web, compact, degree_of}
 use Rattle.tv_spec_boxes.specs.Assignments.{Rows, Assignment, assignments, same_choice}
 use Rattle.tv_spec_boxes.specs.Numbers.{lowest, box_bound}
 use Rattle.tv_spec_partial.specs.Partial.{is_pending, chosen}

@@ -1,5 +1,5 @@
 -- What is kept after one corner more, of one assignment with diagrams on the new edges.
-use Rattle.std.specs.Prelude.{◌≡◌, Contains, ℕ, zero, suc, ◌+◌, ◌*◌, ◌<◌, ◌≤◌, Bool, true, false, ◌||◌, ℤ, pos, negsuc, ◌+ℤ◌, ◌-ℤ◌, ◌≤ℤ◌, List, [], ◌∷◌, ◌++◌, length, filter, take}
+use Rattle.std.specs.Prelude.{◌≡◌, Contains, ℕ, zero, suc, ◌+◌, ◌*◌, ◌<◌, ◌≤◌, true, ◌||◌, ℤ, pos, negsuc, ◌+ℤ◌, ◌-ℤ◌, ◌≤ℤ◌, List, [], ◌∷◌, ◌++◌, length, filter, take}
 use Rattle.std.proofs.Common.{refl, sym, ap, ◌∙◌, arith}
 use Rattle.std.proofs.lemmas.Int.{ints}
 use Rattle.std.proofs.lemmas.List.{take_more}
@@ -7,7 +7,6 @@ use Rattle.tv_lemmas.proofs.Naturals.{as_natural-above}
 use Rattle.tv_lemmas.proofs.Sums.{sum_of-append}
 use Rattle.tv_ring.specs.Sums.{total_below}
 use Rattle.tv_ring.proofs.Sums.{total_below-same}
-use Rattle.tv_spec_plane.specs.declared.records.CompactEdge.{CompactEdge}
 use Rattle.tv_spec_plane.specs.Web.{Web, compact}
 use Rattle.tv_cells.specs.Costs.{overlap_cost}
 use Rattle.tv_cells.specs.Extras.{count, empty_legs}
@@ -17,10 +16,10 @@ use Rattle.tv_spec_partial.specs.Partial.{is_met, is_pending, rests_on}
 use Rattle.tv_laws_counts.specs.Ways.{convolved, ways}
 use Rattle.tv_laws_counts.proofs.Convolutions.{convolved-same, convolved-swap}
 use Rattle.tv_laws_frontier.specs.Frontier.{only, start_after, corner_legs, through, kept_ways, at_number, kept_at, kept_upto}
-use Rattle.tv_laws_frontier.specs.Steps.{is_new, picked, put, nothing, new_part, near_part, near_legs, before}
+use Rattle.tv_laws_frontier.specs.Steps.{is_new, picked, put, new_part, near_part, near_legs, before}
 use Rattle.tv_laws_frontier.proofs.Agreeing.{Agrees, agrees-fewer, agrees-only}
 use Rattle.tv_laws_frontier.proofs.Convolved.{convolved-at, at-same, term_at}
-use Rattle.tv_laws_frontier.proofs.Corners.{touches, corner-agrees, front-agrees}
+use Rattle.tv_laws_frontier.proofs.Corners.{corner-agrees, front-agrees}
 use Rattle.tv_laws_frontier.proofs.Crowded.{starts-above}
 use Rattle.tv_laws_frontier.proofs.Kept.{legs-long, through-within}
 use Rattle.tv_laws_frontier.proofs.PartialSums.{only-resting}
