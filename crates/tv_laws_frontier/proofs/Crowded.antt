@@ -26,7 +26,7 @@ use Rattle.tv_laws_counts.proofs.Fillings.{legs_are}
 use Rattle.tv_laws_counts.proofs.SignedCounts.{assignments_have_diagrams}
 use Rattle.tv_cells.specs.Extras.{empty_legs}
 use Rattle.tv_laws_frontier.specs.Frontier.{only, start_after, corner_legs, kept_ways, at_number, kept_at, is_of_state, of_state, state_number, kept_upto}
-use Rattle.tv_laws_frontier.specs.Laws.{CrowdOfState}
+use Rattle.tv_laws_frontier.specs.Bounds.{CrowdOfState}
 use Rattle.tv_laws_frontier.proofs.Filters.{sum_of-fewer}
 use Rattle.tv_laws_frontier.proofs.Picked.{rise_by, rise-least, rises-are}
 use Rattle.tv_laws_frontier.proofs.Kept.{legs-long, through-less, fallen-lowest}

@@ -18,7 +18,7 @@ use Rattle.tv_laws_counts.proofs.Choices.{degree_by}
 use Rattle.tv_laws_counts.proofs.Degrees.{weights, class_of-degree}
 use Rattle.tv_laws_frontier.specs.Frontier.{only, kept_at, is_of_state, of_state, state_number}
 use Rattle.tv_laws_frontier.specs.Steps.{is_new, picked, put, nothing, options, new_part, near_part, near_legs, before}
-use Rattle.tv_laws_frontier.specs.Laws.{JoinsWithin}
+use Rattle.tv_laws_frontier.specs.StepLaws.{JoinsWithin}
 use Rattle.tv_laws_frontier.proofs.Classes.{class-after}
 use Rattle.tv_laws_frontier.proofs.Crowded.{none-of}
 use Rattle.tv_laws_frontier.proofs.First.{nothing-long}

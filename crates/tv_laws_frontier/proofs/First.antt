@@ -22,7 +22,7 @@ use Rattle.tv_laws_counts.proofs.Assigned.{assignments_once}
 use Rattle.tv_laws_counts.proofs.Choices.{degree_by}
 use Rattle.tv_laws_frontier.specs.Frontier.{only, start_after, kept_ways, at_number, kept_at, is_of_state, state_number}
 use Rattle.tv_laws_frontier.specs.Steps.{nothing}
-use Rattle.tv_laws_frontier.specs.Laws.{FirstState}
+use Rattle.tv_laws_frontier.specs.StepLaws.{FirstState}
 use Rattle.tv_laws_frontier.proofs.Classes.{entries-same, part-empty}
 use Rattle.tv_laws_frontier.proofs.Filters.{sum_of-same}
 use Rattle.tv_laws_frontier.proofs.Parted.{once}

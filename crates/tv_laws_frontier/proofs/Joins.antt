@@ -18,7 +18,7 @@ use Rattle.tv_laws_counts.proofs.Crowds.{crowd_of_corner}
 use Rattle.tv_laws_counts.proofs.Degrees.{weights, class_of-degree}
 use Rattle.tv_laws_frontier.specs.Frontier.{kept_upto}
 use Rattle.tv_laws_frontier.specs.Steps.{is_new, put, nothing, states, options, near_part, near_legs, joined, stepped}
-use Rattle.tv_laws_frontier.specs.Laws.{CrowdOfJoin, CrowdOfNear}
+use Rattle.tv_laws_frontier.specs.Bounds.{CrowdOfJoin, CrowdOfNear}
 use Rattle.tv_laws_frontier.proofs.Crowded.{crowd_of_state}
 use Rattle.tv_laws_frontier.proofs.First.{nothing-long, nothing-diagrams}
 use Rattle.tv_laws_frontier.proofs.Kept.{legs-long}

@@ -17,7 +17,8 @@ use Rattle.tv_spec_boxes.specs.Numbers.{lowest}
 use Rattle.tv_spec_boxes.proofs.Vectors.{same_vector_tells}
 use Rattle.tv_laws_counts.specs.Ways.{convolved, ways, assignment_sign}
 use Rattle.tv_laws_frontier.specs.Frontier.{start_after, corner_legs, through, kept_ways, at_number, kept_at, is_of_state, of_state, state_number, state_sum}
-use Rattle.tv_laws_frontier.specs.Laws.{SignOfState, StateWithin}
+use Rattle.tv_laws_frontier.specs.Laws.{SignOfState}
+use Rattle.tv_laws_frontier.specs.Bounds.{StateWithin}
 use Rattle.tv_laws_frontier.proofs.Convolved.{at-below}
 use Rattle.tv_laws_frontier.proofs.Crowded.{starts-above, state-class}
 use Rattle.tv_laws_frontier.proofs.Filters.{sum_of-same}

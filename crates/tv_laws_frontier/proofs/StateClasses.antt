@@ -18,7 +18,7 @@ use Rattle.tv_laws_signs.proofs.Whole.{compact_inside}
 use Rattle.tv_laws_frontier.specs.Frontier.{only, is_of_state, of_state}
 use Rattle.tv_laws_frontier.specs.Steps.{is_new, picked, put, options, new_part, near_part}
 use Rattle.tv_laws_frontier.specs.StateClasses.{HasClass, ComesFrom}
-use Rattle.tv_laws_frontier.specs.Laws.{ClassesStep, WholeClasses, EndStates}
+use Rattle.tv_laws_frontier.specs.StepLaws.{ClassesStep, WholeClasses, EndStates}
 use Rattle.tv_laws_frontier.proofs.First.{none-pending}
 use Rattle.tv_laws_frontier.proofs.Listed.{choice_equality, picked-listed}
 use Rattle.tv_laws_frontier.proofs.Regrouped.{Comes, Goes, comes-goes, goes-comes, goes-is, is-goes, after-is, more-less}

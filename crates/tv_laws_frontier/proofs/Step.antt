@@ -14,7 +14,7 @@ use Rattle.tv_laws_counts.proofs.Choices.{IsChoice, choices_are}
 use Rattle.tv_laws_counts.proofs.Degrees.{weights}
 use Rattle.tv_laws_frontier.specs.Frontier.{kept_at, is_of_state, of_state, state_number, kept_upto}
 use Rattle.tv_laws_frontier.specs.Steps.{is_new, picked, states, options, near_part, joined, stepped}
-use Rattle.tv_laws_frontier.specs.Laws.{StepOfState}
+use Rattle.tv_laws_frontier.specs.StepLaws.{StepOfState}
 use Rattle.tv_laws_frontier.proofs.Filters.{filter-both, sum_of-same}
 use Rattle.tv_laws_frontier.proofs.Parted.{sum_of-alike, parted}
 use Rattle.tv_laws_frontier.proofs.Listed.{choice_equality, picked-listed}

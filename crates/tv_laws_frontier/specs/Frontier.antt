@@ -10,7 +10,8 @@
 --                         the Euler characteristic is at most m: what goes beyond m at a corner is dropped there
 -- at_number f z        == f at a whole number; 0 below 0
 -- kept_at w fixed m t a i == the kept ways that have the Euler characteristic i over the first t corners
--- is_of_state w t k v a == a has the empty diagram on every edge that is not met, the diagrams k on the pending edges, and class v
+-- is_of_state w t k v a == a has the empty diagram on every edge that is not met, the diagrams k on the pending edges, and
+--                         class v
 -- of_state w d t k v   == the assignments of degree at most d that are so
 -- state_number w fixed d m t k v i == the number of what is kept in the state of k, at class v and exponent i
 -- state_sum w fixed d m t k v i == the same with signs

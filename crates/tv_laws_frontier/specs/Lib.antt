@@ -3,6 +3,8 @@ pub mod Steps
 pub mod Kept
 pub mod StateClasses
 pub mod Laws
+pub mod StepLaws
+pub mod Bounds
 pub use Rattle.tv_spec_plane.specs.Web
 pub use Rattle.tv_spec_boxes.specs.Assignments
 pub use Rattle.tv_spec_boxes.specs.Configurations

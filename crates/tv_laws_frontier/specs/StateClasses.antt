@@ -1,7 +1,7 @@
 -- Which classes a state has.
 --
--- HasClass w d t k v  == some assignment of degree at most d has the empty diagram on every edge that is not met, the diagrams k on
---                        the pending edges, and class v
+-- HasClass w d t k v  == some assignment of degree at most d has the empty diagram on every edge that is not met, the diagrams
+--                        k on the pending edges, and class v
 -- ComesFrom w d t k v == for some choice on the edges that are pending before corner t, and some choice on the new ones, after
 --                        which the choice is k, the state before has the class v less that of the new edges
 use Rattle.std.specs.Prelude.{◌≡◌, Contains, ℕ, suc, ℤ, List}
