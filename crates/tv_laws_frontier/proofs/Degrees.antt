@@ -1,5 +1,5 @@
 -- No state is joined where the diagrams at the corner have too great a degree.
-use Rattle.std.specs.Prelude.{◌≡◌, Contains, ℕ, zero, suc, ◌+◌, ◌*◌, ◌<◌, Bool, true, false, cond, not, ℤ, pos, ◌-ℤ◌, ◌≤ℤ◌, ◌<ℤ◌, List, [], ◌∷◌, map, length}
+use Rattle.std.specs.Prelude.{◌≡◌, Contains, ℕ, zero, suc, ◌+◌, ◌*◌, ◌<◌, Bool, true, false, cond, not, ℤ, pos, ◌-ℤ◌, ◌≤ℤ◌, ◌<ℤ◌, List, [], ◌∷◌, map, length, filter}
 use Rattle.std.proofs.Common.{refl, sym, ap, ◌∙◌, arith}
 use Rattle.std.proofs.lemmas.Int.{ints}
 use Rattle.tv_lemmas.specs.Naturals.{as_natural}
@@ -49,6 +49,15 @@ degree-put p f es g b long bare =
     let added = spent-degree f es (put p es g (nothing es)) in
     omega (arith, ints)
 
+placed-degree-head : (p : CompactEdge → Bool) (f : CompactEdge → ℕ) (e : CompactEdge) (es : List CompactEdge) (g : List Rows) (c : Bool) → p e ≡ c → length g ≡ length (cond c (e ∷ filter p es) (filter p es)) → ((h : List Rows) → length h ≡ length (filter p es) → degree_by (map f es) (put p es h (nothing es)) ≡ degree_by (map f (filter p es)) h) → degree_by (map f (e ∷ es)) (put p (e ∷ es) g ([] ∷ nothing es)) ≡ degree_by (map f (cond c (e ∷ filter p es) (filter p es))) g
+placed-degree-head p f e es [] true is long rest = absurd (omega arith)
+placed-degree-head p f e es (x ∷ g) true is long rest = rw is (ap (λ n. size x * f e + n) (rest g (omega arith)))
+placed-degree-head p f e es g false is long rest = rw (put-skip p e es g [] (nothing es) is) (let none : 0 * f e ≡ 0 = omega arith in let same = rest g long in omega arith)
+
+placed-degree : (p : CompactEdge → Bool) (f : CompactEdge → ℕ) (es : List CompactEdge) (g : List Rows) → length g ≡ length (filter p es) → degree_by (map f es) (put p es g (nothing es)) ≡ degree_by (map f (filter p es)) g
+placed-degree p f [] g long = refl
+placed-degree p f (e ∷ es) g long = placed-degree-head p f e es g (p e) refl long (placed-degree p f es)
+
 -- ---- what is picked, and nothing else
 
 picked-only-head : (q : CompactEdge → Bool) (e : CompactEdge) (es : List CompactEdge) (d : Rows) (b : Assignment) (c : Bool) → q e ≡ c → put q (e ∷ es) (picked q (e ∷ es) (d ∷ b)) ([] ∷ nothing es) ≡ cond c d [] ∷ put q es (picked q es b) (nothing es)
@@ -79,6 +88,17 @@ pending-bare t es h =
         by_test : (b : Bool) → is_pending t e ≡ b → b ≡ false
         by_test false off = refl
         by_test true on = absurd (let no : true ≡ false = sym new ∙ pending-apart t e on in cc)
+
+-- the degree of what a corner sees is that of both choices together
+pub near-degree : (w : Web) (t : ℕ) (h g : List Rows) → IsGraded w → length h ≡ length (filter (is_pending t) (compact w)) → length g ≡ length (filter (is_new t) (compact w)) → degree_of w.heights (class_of w (near_part w t h g)) ≡ pos (degree_by (weights w (filter (is_pending t) (compact w))) h + degree_by (weights w (filter (is_new t) (compact w))) g)
+near-degree w t h g graded first new =
+    let f : CompactEdge → ℕ = λ e. as_natural (edge_degree w e) in
+    let base = put (is_pending t) (compact w) h (nothing (compact w)) in
+    let base_long : length base ≡ length (compact w) = put-long (is_pending t) (compact w) h (nothing (compact w)) ∙ nothing-long (compact w) in
+    let both = degree-put (is_new t) f (compact w) g base base_long (pending-bare t (compact w) h) in
+    let old = placed-degree (is_pending t) f (compact w) h first in
+    let added = placed-degree (is_new t) f (compact w) g new in
+    class_of-degree w graded (near_part w t h g) ∙ ap pos (omega arith)
 
 -- ---- joins
 

@@ -1,9 +1,10 @@
 -- Diagrams that are put on some edges of an assignment, and picked from it.
-use Rattle.std.specs.Prelude.{◌≡◌, ℕ, suc, ◌+◌, ◌*◌, ◌≤◌, Bool, true, false, cond, not, ◌||◌, ℤ, pos, ◌+ℤ◌, List, [], ◌∷◌, map, filter, length, ⊤}
+use Rattle.std.specs.Prelude.{◌≡◌, ℕ, suc, ◌+◌, ◌*◌, ◌≤◌, Bool, true, false, cond, not, ◌||◌, ℤ, pos, ◌+ℤ◌, List, [], ◌∷◌, map, filter, length, ⊤, zero, take, slice_index_or, ◌<◌}
 use Rattle.std.specs.List.{AllByRecursion}
 use Rattle.std.proofs.Common.{refl, sym, ap, ◌∙◌, arith}
 use Rattle.std.proofs.lemmas.Int.{ints}
 use Rattle.tv_spec_plane.specs.declared.records.CompactEdge.{CompactEdge}
+use Rattle.tv_spec_plane.specs.Web.{no_edge}
 use Rattle.tv_partition.specs.Rows.{IsDiagram, size}
 use Rattle.tv_spec_boxes.specs.Assignments.{Rows, Assignment, sum_on}
 use Rattle.tv_laws_counts.proofs.Choices.{degree_by}
@@ -50,6 +51,23 @@ module _ (p : CompactEdge → Bool) where
   picked-put [] (x ∷ g) b long same = absurd (omega arith)
   picked-put (e ∷ es) g [] long same = absurd (omega arith)
   picked-put (e ∷ es) g (d ∷ b) long same = picked-put-head e es g d b (p e) refl same (λ h. picked-put es h b (omega arith))
+
+  -- the diagram at a place
+  put-at-head : (e : CompactEdge) (es : List CompactEdge) (g : List Rows) (d : Rows) (a : Assignment) (k : ℕ) (c : Bool) → p e ≡ c → length g ≡ length (cond c (e ∷ filter p es) (filter p es)) → ((h : List Rows) → length h ≡ length (filter p es) → slice_index_or (put p es h a) k [] ≡ cond (p (slice_index_or es k no_edge)) (slice_index_or h (length (filter p (take k es))) []) (slice_index_or a k [])) → slice_index_or (put p (e ∷ es) g (d ∷ a)) (suc k) [] ≡ cond (p (slice_index_or es k no_edge)) (slice_index_or g (length (cond c (e ∷ filter p (take k es)) (filter p (take k es)))) []) (slice_index_or a k [])
+  put-at-head e es [] d a k true is long rest = absurd (omega arith)
+  put-at-head e es (x ∷ g) d a k true is long rest = rw is (rest g (omega arith))
+  put-at-head e es g d a k false is long rest = rw (put-skip e es g d a is) (rest g long)
+
+  put-at-first : (e : CompactEdge) (es : List CompactEdge) (g : List Rows) (d : Rows) (a : Assignment) (c : Bool) → p e ≡ c → length g ≡ length (cond c (e ∷ filter p es) (filter p es)) → slice_index_or (put p (e ∷ es) g (d ∷ a)) 0 [] ≡ cond c (slice_index_or g 0 []) d
+  put-at-first e es [] d a true is long = absurd (omega arith)
+  put-at-first e es (x ∷ g) d a true is long = rw is refl
+  put-at-first e es g d a false is long = rw (put-skip e es g d a is) refl
+
+  pub put-at : (es : List CompactEdge) (g : List Rows) (a : Assignment) → length a ≡ length es → length g ≡ length (filter p es) → (k : ℕ) → k < length es → slice_index_or (put p es g a) k [] ≡ cond (p (slice_index_or es k no_edge)) (slice_index_or g (length (filter p (take k es))) []) (slice_index_or a k [])
+  put-at [] g a long same k h = absurd (omega arith)
+  put-at (e ∷ es) g [] long same k h = absurd (omega arith)
+  put-at (e ∷ es) g (d ∷ a) long same zero h = put-at-first e es g d a (p e) refl same
+  put-at (e ∷ es) g (d ∷ a) long same (suc k) h = put-at-head e es g d a k (p e) refl same (λ f few. put-at es f a (omega arith) few k (omega arith))
 
   pub picked-long : (es : List CompactEdge) (a : Assignment) → length a ≡ length es → length (picked p es a) ≡ length (filter p es)
   picked-long [] a long = refl
