@@ -13,3 +13,6 @@ mod values;
 pub use genus_value::GenusValue;
 pub use integers::Integers;
 pub use report::Report;
+
+#[cfg(test)]
+mod tests;
