@@ -10,7 +10,10 @@ use tv_ring::Whole;
 pub enum GvFault {
     /// The majorant of this class at this exponent is too wide.
     #[error("the majorant is too wide, at exponent {exponent} of the class {class:?}")]
-    Wide { class: Class, exponent: i64 },
+    Wide {
+        class: Class,
+        exponent: i64,
+    },
     /// The first place where series and product differ, with both values.
     #[error("series and product differ, at exponent {exponent} of the class {class:?}")]
     Mismatch {

@@ -52,12 +52,7 @@ fn is_value(found: Option<&GenusValue>, genus: u32, value: i128) -> bool {
 }
 
 // Whether the class has these two integers and no other.
-fn has_two(
-    integers: &Integers,
-    class: &Class,
-    first: (u32, i128),
-    second: (u32, i128),
-) -> bool {
+fn has_two(integers: &Integers, class: &Class, first: (u32, i128), second: (u32, i128)) -> bool {
     let values = integers.of(class);
     values.len() == 2
         && is_value(values.get(0), first.0, first.1)

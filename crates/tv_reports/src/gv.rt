@@ -58,12 +58,7 @@ fn put_classes(alloc: Global, text: &mut String, report: &Report) -> Result<(), 
     Ok(())
 }
 
-fn put_class(
-    alloc: Global,
-    text: &mut String,
-    report: &Report,
-    k: usize,
-) -> Result<(), AllocError>
+fn put_class(alloc: Global, text: &mut String, report: &Report, k: usize) -> Result<(), AllocError>
     requires { k < length report.now.series.rows }
     ensures { OnOk result ((row : Row ℤ) × (slice_get report.now.series.rows k ≡ Some row)
         × (string_bytes text.new ≡ string_bytes text.old
