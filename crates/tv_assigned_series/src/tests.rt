@@ -116,14 +116,25 @@ fn keeps_what_is_known_farther(rt: HostRuntime) {
     );
 }
 
+// So for each of these legs.
+fn are_kept(corners: &mut Corners<Whole>, alloc: Global, all: &[Legs], upto: i64) -> bool {
+    for legs in all {
+        if !is_kept(corners, alloc, legs, 0, upto) {
+            return false;
+        }
+    }
+    true
+}
+
 #[test]
 fn prepares_corners(rt: HostRuntime) -> Result<(), Fail> {
     let web = conifold(rt.alloc())?;
     let all = [one_cell(rt.alloc())?];
+    let legs = all_legs(rt.alloc(), &web, &all[0])?;
     let mut corners = Corners::new(rt.alloc());
-    assert!(rt; corners.prepare(rt.alloc(), &web, &all, 3).is_ok());
-    for legs in &all_legs(rt.alloc(), &web, &all[0])? {
-        assert!(rt; is_kept(&mut corners, rt.alloc(), legs, 0, 2));
-    }
+    assert!(rt;
+        corners.prepare(rt.alloc(), &web, &all, 3).is_ok()
+            && are_kept(&mut corners, rt.alloc(), &legs, 2)
+    );
     Ok(())
 }
