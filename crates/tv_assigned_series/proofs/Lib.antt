@@ -1,4 +1,5 @@
 pub mod Coefficients
+mod Faults
 mod Inserted
 mod Keeping
 mod Asking

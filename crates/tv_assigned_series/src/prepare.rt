@@ -9,12 +9,12 @@ ghost use Rattle.tv_assigned_series.specs.Asked.{IsWideAt, IsWideBy, KeepsAll};
 
 use crate::asked::{Most, asked_by};
 use crate::corners::Corners;
-use crate::fault::PrepareFault;
+use crate::fault::{PrepareFault, fault_by};
 use std::alloc::Global;
 use tv_assignment::Assignment;
 use tv_cells::legs::Legs;
 use tv_degrees::grade::GradedWeb;
-use tv_ring::{Ring, RingFault};
+use tv_ring::Ring;
 
 impl<C: Ring> Corners<C> {
     /// Computes the series of each triple of legs that a corner of these assignments has, with as many boxes as are left at
@@ -52,8 +52,7 @@ impl<C: Ring> Corners<C> {
     {
         match self.place_of(alloc, legs, most.boxes) {
             Ok(_) => Ok(()),
-            Err(RingFault::Wide) => Err(PrepareFault::Wide(most.by)),
-            Err(RingFault::Memory) => Err(PrepareFault::Memory),
+            Err(fault) => Err(fault_by(fault, most.by)),
         }
     }
 }

@@ -4,9 +4,10 @@ ghost use Rattle.std.specs.Prelude.{◌≡◌, ◌<◌, ◌≤◌, ◌+◌, ◌^
 ghost use Rattle.tv_assigned_series.specs.Terms.{front_terms, IsBeyond};
 
 use crate::corners::Corners;
+use crate::fault::without_exponent;
 use std::alloc::Global;
 use tv_cells::legs::Legs;
-use tv_laurent::{Series, SeriesFault};
+use tv_laurent::Series;
 use tv_ring::{Ring, RingFault};
 
 /// The product over all corners, known through `k`.
@@ -62,7 +63,6 @@ fn with_corner<C: Ring>(
     let corner = corners.at(place);
     match product.mul(corner) {
         Ok(product) => Ok(product),
-        Err(SeriesFault::Wide(_)) => Err(RingFault::Wide),
-        Err(SeriesFault::Memory) => Err(RingFault::Memory),
+        Err(fault) => Err(without_exponent(fault)),
     }
 }

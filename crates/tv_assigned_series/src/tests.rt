@@ -1,6 +1,7 @@
 //! The conifold: series of single assignments, as they are known from outside, and what is kept of its corners.
 
-ghost use Rattle.std.specs.Prelude.{◌≡◌, ◌≤◌, IfOk, length, unsigned_abs};
+ghost use Rattle.std.specs.Prelude.{◌≡◌, ◌≤◌, ◌<◌, ◌^◌, IfOk, length, unsigned_abs};
+ghost use Rattle.tv_spec_plane.specs.Web.{compact};
 ghost use Rattle.tv_assignment.specs.Size.{cells_of};
 
 use crate::{Corners, assignment_series};
@@ -15,31 +16,44 @@ use tv_partition::diagram::{Diagram, MOST_CELLS};
 use tv_ring::{Residue, Ring, Whole};
 use tv_spec_plane::records::Triple;
 use tv_triangulation::triangulate::triangulate;
-use tv_web::web::build_web;
+use tv_web::web::{Web, build_web};
 
-fn point(x: i64, y: i64) -> Result<Point, Fail> {
-    Ok(Point::new(x, y).ok_or("a point")?)
+fn square() -> Option<[Point; 4]> {
+    Some([
+        Point::new(0, 0)?,
+        Point::new(1, 0)?,
+        Point::new(1, 1)?,
+        Point::new(0, 1)?,
+    ])
+}
+
+fn web_of(alloc: Global, points: &[Point; 4]) -> Result<Web, Fail> {
+    let triangles = [Triple { a: 0, b: 1, c: 2 }, Triple { a: 0, b: 2, c: 3 }];
+    Ok(build_web(alloc, triangulate(alloc, points, &triangles)?)?)
 }
 
 // The conifold, whose edge has the degree 1.
-fn conifold(alloc: Global) -> Result<GradedWeb, Fail> {
-    let points = [point(0, 0)?, point(1, 0)?, point(1, 1)?, point(0, 1)?];
-    let triangles = [Triple { a: 0, b: 1, c: 2 }, Triple { a: 0, b: 2, c: 3 }];
-    let triangulation = triangulate(alloc, &points, &triangles)?;
-    let web = build_web(alloc, triangulation)?;
+fn conifold(alloc: Global) -> Result<GradedWeb, Fail>
+    ensures one { IfOk result (λ web. length (compact web) ≡ 1) }
+{
+    let web = web_of(alloc, &square().ok_or("points")?)?;
     if web.points().len() != 4 {
         return Err("four points".into());
     }
-    let heights = [0, 1, 0, 0].to_vec(alloc)?;
-    Ok(grade(alloc, web, heights)?)
+    let graded = grade(alloc, web, [0, 1, 0, 0].to_vec(alloc)?)?;
+    if graded.compact().len() == 1 {
+        Ok(graded)
+    } else {
+        Err("one edge".into())
+    }
 }
 
-// One edge's diagram.
-fn on_one_edge(alloc: Global, rows: &[u32]) -> Result<Assignment, Fail>
+// One cell on the one edge.
+fn one_cell(alloc: Global) -> Result<Assignment, Fail>
     ensures one { IfOk result (λ a. length a ≡ 1) }
     ensures few { IfOk result (λ a. cells_of a ≤ MOST_CELLS) }
 {
-    let diagram = Diagram::new(rows.to_vec(alloc)?).ok_or("a diagram")?;
+    let diagram = Diagram::new([1].to_vec(alloc)?).ok_or("a diagram")?;
     diagram.known();
     let mut diagrams = Vec::new(alloc);
     diagrams.push(diagram)?;
@@ -47,16 +61,12 @@ fn on_one_edge(alloc: Global, rows: &[u32]) -> Result<Assignment, Fail>
 }
 
 // The series of one cell on the conifold's edge.
-fn one_cell<C: Ring>(alloc: Global, n: i64) -> Result<Series<C>, Fail>
+fn series_of<C: Ring>(alloc: Global, n: i64) -> Result<Series<C>, Fail>
     requires { unsigned_abs n ≤ 1000000 }
 {
     let web = conifold(alloc)?;
-    if web.compact().len() != 1 {
-        return Err("one edge".into());
-    }
-    let line = on_one_edge(alloc, &[1])?;
     let mut corners = Corners::new(alloc);
-    Ok(assignment_series(alloc, &web, &mut corners, &line, n)?)
+    Ok(assignment_series(alloc, &web, &mut corners, &one_cell(alloc)?, n)?)
 }
 
 fn is_at(found: Coefficient<'_, Whole>, want: i128) -> bool {
@@ -65,48 +75,66 @@ fn is_at(found: Coefficient<'_, Whole>, want: i128) -> bool {
 
 #[test]
 fn expands_one_cell(rt: HostRuntime) -> Result<(), Fail> {
-    let found: Series<Whole> = one_cell(rt.alloc(), 4)?;
-    assert_eq!(rt; (found.low(), found.upto()), (1, 4));
-    assert!(rt; is_at(found.coefficient(1), 1) && is_at(found.coefficient(4), -42));
+    let found: Series<Whole> = series_of(rt.alloc(), 4)?;
+    assert!(rt;
+        found.low() == 1
+            && found.upto() == 4
+            && is_at(found.coefficient(1), 1)
+            && is_at(found.coefficient(4), -42)
+    );
     Ok(())
 }
 
 #[test]
 fn expands_modulo_seven(rt: HostRuntime) -> Result<(), Fail> {
-    let found: Series<Residue<7>> = one_cell(rt.alloc(), 2)?;
+    let found: Series<Residue<7>> = series_of(rt.alloc(), 2)?;
     assert!(rt; matches!(found.coefficient(2), Coefficient::Is(last) if last.get() == 3));
     Ok(())
 }
 
+// Whether the series of the corner with these legs is kept through `upto` where it is asked for through `k`.
+fn is_kept(corners: &mut Corners<Whole>, alloc: Global, legs: &Legs, k: u32, upto: i64) -> bool
+    requires { k < 2 ^ 29 }
+{
+    match corners.place_of(alloc, legs, k) {
+        Ok(place) => corners.at(place).upto() == upto,
+        Err(_) => false,
+    }
+}
+
 #[test]
-fn keeps_what_is_known_farther(rt: HostRuntime) -> Result<(), Fail> {
+fn keeps_what_is_known_farther(rt: HostRuntime) {
     let legs = Legs {
         along_x: Diagram::empty(rt.alloc()),
         along_y: Diagram::empty(rt.alloc()),
         along_z: Diagram::empty(rt.alloc()),
     };
-    let mut corners: Corners<Whole> = Corners::new(rt.alloc());
-    let _ = corners.place_of(rt.alloc(), &legs, 3)?;
-    let place = corners.place_of(rt.alloc(), &legs, 1)?;
-    let kept = corners.at(place);
-    assert!(rt; kept.upto() == 3 && is_at(kept.coefficient(3), 6));
-    Ok(())
+    let mut corners = Corners::new(rt.alloc());
+    assert!(rt;
+        is_kept(&mut corners, rt.alloc(), &legs, 3, 3)
+            && is_kept(&mut corners, rt.alloc(), &legs, 1, 3)
+    );
+}
+
+// So for each of these legs.
+fn are_kept(corners: &mut Corners<Whole>, alloc: Global, all: &[Legs], upto: i64) -> bool {
+    for legs in all {
+        if !is_kept(corners, alloc, legs, 0, upto) {
+            return false;
+        }
+    }
+    true
 }
 
 #[test]
 fn prepares_corners(rt: HostRuntime) -> Result<(), Fail> {
     let web = conifold(rt.alloc())?;
-    if web.compact().len() != 1 {
-        return Err("one edge".into());
-    }
-    let all = [on_one_edge(rt.alloc(), &[1])?];
-    let mut corners: Corners<Whole> = Corners::new(rt.alloc());
-    if corners.prepare(rt.alloc(), &web, &all, 3).is_err() {
-        return Err("too many".into());
-    }
-    for legs in all_legs(rt.alloc(), &web, &all[0])? {
-        let place = corners.place_of(rt.alloc(), &legs, 0)?;
-        assert_eq!(rt; corners.at(place).upto(), 2);
-    }
+    let all = [one_cell(rt.alloc())?];
+    let legs = all_legs(rt.alloc(), &web, &all[0])?;
+    let mut corners = Corners::new(rt.alloc());
+    assert!(rt;
+        corners.prepare(rt.alloc(), &web, &all, 3).is_ok()
+            && are_kept(&mut corners, rt.alloc(), &legs, 2)
+    );
     Ok(())
 }

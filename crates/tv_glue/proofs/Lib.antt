@@ -1,3 +1,4 @@
 pub mod Entries
 pub mod Crowded
 pub mod Adding
+mod Told

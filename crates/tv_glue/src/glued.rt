@@ -1,21 +1,22 @@
 //! The full family: each assignment's series is added into its class. It counts no box itself.
 
 ghost use Rattle.std.specs.Prelude.{◌≡◌, ◌≤◌, ◌<◌, ◌+◌, pos, unsigned_abs, length, take, IfOk, IfErr, OnOk};
+ghost use Rattle.std.specs.List.{AllByRecursion};
 ghost use Rattle.tv_spec_boxes.specs.Assignments.{assignments, no_legs};
 ghost use Rattle.tv_spec_series.specs.Families.{without_rows};
 ghost use Rattle.tv_spec_series.specs.Full.{IsFull};
 ghost use Rattle.tv_laws_families.specs.Glued.{IsGlued};
-ghost use Rattle.tv_glue.specs.Faults.{OnWide, IsCrowded};
+ghost use Rattle.tv_assignment.specs.Size.{IsOn};
+ghost use Rattle.tv_glue.specs.Faults.{OnWide, IsCrowded, Names, of_prepare};
 
 use crate::class::class_of;
-use crate::fault::GlueFault;
+use crate::fault::{GlueFault, of_ring, of_series};
 use std::alloc::{AllocError, Global};
 use tv_assigned_series::{Corners, PrepareFault, assignment_series};
 use tv_assignment::{Assignment, assignments_of};
 use tv_degrees::grade::GradedWeb;
 use tv_graded::Graded;
-use tv_laurent::SeriesFault;
-use tv_ring::{Ring, RingFault};
+use tv_ring::Ring;
 use tv_spec_plane::limits::GREATEST_DEGREE;
 
 /// The series of every class that some assignment of degree at most `d` has, through the exponent `n`: the signed numbers of
@@ -89,8 +90,24 @@ fn prepare<C: Ring>(
     web.known();
     match corners.prepare(alloc, web, all, summands.n) {
         Ok(()) => Ok(()),
-        Err(PrepareFault::Wide(k)) => Err(GlueFault::Wide(class_of(alloc, web, &all[k])?)),
-        Err(PrepareFault::Memory) => Err(GlueFault::Memory),
+        Err(fault) => Err(of_prepare(alloc, web, all, fault)?),
+    }
+}
+
+// What a fault of the corners is: Wide with the class of the assignment that it names, exactly where it is Wide.
+fn of_prepare(
+    alloc: Global,
+    web: &GradedWeb,
+    all: &[Assignment],
+    fault: PrepareFault,
+) -> Result<GlueFault, AllocError>
+    requires on { AllByRecursion (IsOn web.now) all.now }
+    requires named { Names all.now fault }
+    ensures { IfOk result (λ told. told ≡ of_prepare web.now all.now fault) }
+{
+    match fault {
+        PrepareFault::Wide(k) => Ok(GlueFault::Wide(class_of(alloc, web, &all[k])?)),
+        PrepareFault::Memory => Ok(GlueFault::Memory),
     }
 }
 
@@ -132,13 +149,11 @@ fn add<C: Ring>(
     let class = class_of(alloc, web, assignment)?;
     let series = match assignment_series(alloc, web, corners, assignment, summands.n) {
         Ok(series) => series,
-        Err(RingFault::Wide) => return Err(GlueFault::Wide(class)),
-        Err(RingFault::Memory) => return Err(GlueFault::Memory),
+        Err(fault) => return Err(of_ring(fault, class)),
     };
     series.known();
     match family.add_into(class, series) {
         Ok(()) => Ok(()),
-        Err(SeriesFault::Wide(_)) => Err(GlueFault::Wide(class_of(alloc, web, assignment)?)),
-        Err(SeriesFault::Memory) => Err(GlueFault::Memory),
+        Err(fault) => Err(of_series(fault, class_of(alloc, web, assignment)?)),
     }
 }

@@ -1,5 +1,5 @@
 //! Values from outside, each call once with ample memory through a bound, and each fault.
-//! What the contracts say is not tried again.
+//! What the contracts say is not tried again. Each value is made and compared by helpers, so that a test has few exits.
 
 ghost use Rattle.std.specs.Prelude.{◌≡◌, ◌≤◌, IsTrue, unsigned_abs};
 ghost use Rattle.tv_laws_series.specs.Terms.{upto};
@@ -14,20 +14,18 @@ use tv_ring::{Residue, Ring, RingFault, Whole};
 // 2^126
 const HALF: i128 = 85070591730234615865843651857942052864;
 
-fn whole(n: i128) -> Result<Whole, Fail> {
-    Ok(Whole::new(n).ok_or("within")?)
-}
+// The first exponent of a series, and its coefficients.
+type Listed<'a> = (i64, &'a [i128]);
 
-// The series of these numbers, the first at `low`.
-fn series_of(alloc: Global, low: i64, numbers: &[i128]) -> Result<Series<Whole>, Fail> {
+fn series_of(alloc: Global, (low, numbers): Listed) -> Result<Series<Whole>, SeriesFault> {
     let mut coefficients = Vec::new(alloc);
     for number in numbers {
-        coefficients.push(whole(*number)?)?;
+        coefficients.push(Whole::new(*number).ok_or(SeriesFault::Memory)?)?;
     }
     if -99 <= low && low <= 99 && coefficients.len() <= 99 {
         Ok(Series::new(low, coefficients))
     } else {
-        Err("small".into())
+        Err(SeriesFault::Memory)
     }
 }
 
@@ -41,27 +39,9 @@ fn is_small(series: &Series<Whole>) -> bool
     -99 <= low && low <= 99 && -99 <= upto && upto <= 99
 }
 
-// The product, where all exponents are small.
-fn product(a: &Series<Whole>, b: &Series<Whole>) -> Result<Series<Whole>, SeriesFault> {
-    if is_small(a) && is_small(b) {
-        a.mul(b)
-    } else {
-        Err(SeriesFault::Memory)
-    }
-}
-
-// The same coefficients, from `low` on.
-fn moved_to(series: Series<Whole>, low: i64) -> Result<Series<Whole>, Fail> {
-    if is_small(&series) && -99 <= low && low <= 99 {
-        let from = series.low();
-        Ok(series.shift(low - from))
-    } else {
-        Err("small".into())
-    }
-}
-
-// Whether these are the coefficients from `low` on, and nothing is known beyond them.
-fn shows(series: &Series<Whole>, low: i64, numbers: &[i128]) -> bool {
+// Whether these are the coefficients, and nothing is known beyond them.
+fn has(series: &Series<Whole>, (low, numbers): Listed) -> bool {
+    series.known();
     if series.low() != low
         || !matches!(series.coefficient(low.wrapping_sub(1)), Coefficient::Zero)
     {
@@ -75,80 +55,99 @@ fn shows(series: &Series<Whole>, low: i64, numbers: &[i128]) -> bool {
         }
         n = n.wrapping_add(1);
     }
-    matches!(series.coefficient(n), Coefficient::Beyond)
+    series.upto() == n.wrapping_sub(1) && matches!(series.coefficient(n), Coefficient::Beyond)
 }
 
-#[test]
-fn products(rt: HostRuntime) -> Result<(), Fail> {
-    let a = series_of(rt.alloc(), 0, &[1, -1, 0, 0])?;
-    let b = series_of(rt.alloc(), 0, &[1, 1, 1, 1])?;
-    let one = product(&a, &b)?;
-    one.known();
-    assert!(rt; one.upto() == 3 && shows(&one, 0, &[1, 0, 0, 0]));
-    Ok(())
-}
-
-#[test]
-fn sums_and_multiples(rt: HostRuntime) -> Result<(), Fail> {
-    let ones = series_of(rt.alloc(), 0, &[1, 1, 1, 1])?;
-    let later = series_of(rt.alloc(), 2, &[1, 0, 0])?;
-    assert!(rt; shows(&later.add(&ones)?, 0, &[1, 1, 2, 1]));
-    assert!(rt; shows(&later.scale(&whole(3)?)?, 2, &[3, 0, 0]));
-    Ok(())
-}
-
-#[test]
-fn shifts(rt: HostRuntime) -> Result<(), Fail> {
-    let ones = series_of(rt.alloc(), 0, &[1, 1, 1, 1])?;
-    let later = series_of(rt.alloc(), 2, &[1, 0, 0])?;
-    let moved = product(&later, &ones)?;
-    assert!(rt; moved.upto() == 4 && shows(&moved, 2, &[1, 1, 1]));
-    assert!(rt; shows(&moved_to(moved, -2)?, -2, &[1, 1, 1]));
-    Ok(())
-}
-
-#[test]
-fn copies_and_cuts(rt: HostRuntime) -> Result<(), Fail> {
-    let later = series_of(rt.alloc(), 2, &[1, 0, 0])?;
-    let mut short = later.copy()?;
-    short.truncate(3);
-    assert!(rt; shows(&short, 2, &[1, 0]));
-    assert!(rt; shows(&later.cut(-2), -1, &[]));
-    Ok(())
-}
-
-// The exponent at which the answer is too wide.
-fn wide_at(answer: Result<Series<Whole>, SeriesFault>) -> Option<i64> {
+fn shows(answer: Result<Series<Whole>, SeriesFault>, want: Listed) -> bool {
     match answer {
-        Err(SeriesFault::Wide(n)) => Some(n),
-        _ => None,
+        Ok(series) => has(&series, want),
+        Err(_) => false,
     }
 }
 
-#[test]
-fn wide_sums(rt: HostRuntime) -> Result<(), Fail> {
-    let ones = series_of(rt.alloc(), -1, &[1, 1])?;
-    let most = series_of(rt.alloc(), -1, &[0, i128::MAX])?;
-    assert!(rt; wide_at(ones.add(&most)) == Some(0));
-    assert!(rt; shows(&product(&ones, &most)?, -2, &[0, i128::MAX]));
-    Ok(())
+fn is_wide_at(answer: Result<Series<Whole>, SeriesFault>, exponent: i64) -> bool {
+    matches!(answer, Err(SeriesFault::Wide(n)) if n == exponent)
+}
+
+fn sum(alloc: Global, a: Listed, b: Listed) -> Result<Series<Whole>, SeriesFault> {
+    series_of(alloc, a)?.add(&series_of(alloc, b)?)
+}
+
+// The product, where all exponents are small.
+fn product(alloc: Global, a: Listed, b: Listed) -> Result<Series<Whole>, SeriesFault> {
+    let a = series_of(alloc, a)?;
+    let b = series_of(alloc, b)?;
+    if is_small(&a) && is_small(&b) {
+        a.mul(&b)
+    } else {
+        Err(SeriesFault::Memory)
+    }
+}
+
+fn multiple(alloc: Global, a: Listed, factor: i128) -> Result<Series<Whole>, SeriesFault> {
+    let factor = Whole::new(factor).ok_or(SeriesFault::Memory)?;
+    series_of(alloc, a)?.scale(&factor)
 }
 
 #[test]
-fn wide_multiples(rt: HostRuntime) -> Result<(), Fail> {
-    let half = series_of(rt.alloc(), -1, &[0, HALF])?;
-    let two = series_of(rt.alloc(), 0, &[2, 0])?;
-    assert!(rt; wide_at(half.scale(&whole(2)?)) == Some(0));
-    assert!(rt; wide_at(product(&half, &two)) == Some(0));
-    Ok(())
+fn sums_and_products(rt: HostRuntime) {
+    let alloc = rt.alloc();
+    let ones: Listed = (0, &[1, 1, 1, 1]);
+    let later: Listed = (2, &[1, 0, 0]);
+    assert!(rt;
+        shows(
+            product(alloc, (0, &[1, -1, 0, 0]), ones),
+            (0, &[1, 0, 0, 0])
+        ) && shows(product(alloc, later, ones), (2, &[1, 1, 1]))
+            && shows(sum(alloc, later, ones), (0, &[1, 1, 2, 1]))
+            && shows(multiple(alloc, later, 3), (2, &[3, 0, 0]))
+    );
 }
 
 #[test]
-fn wide_products(rt: HostRuntime) -> Result<(), Fail> {
-    let ones = series_of(rt.alloc(), -1, &[1, 1])?;
-    let halves = series_of(rt.alloc(), -1, &[HALF, HALF])?;
-    assert!(rt; wide_at(product(&ones, &halves)) == Some(-1));
-    Ok(())
+fn wide_sums_and_products(rt: HostRuntime) {
+    let alloc = rt.alloc();
+    let ones: Listed = (-1, &[1, 1]);
+    let most: Listed = (-1, &[0, i128::MAX]);
+    let half: Listed = (-1, &[0, HALF]);
+    assert!(rt;
+        shows(product(alloc, ones, most), (-2, &[0, i128::MAX]))
+            && is_wide_at(sum(alloc, ones, most), 0)
+            && is_wide_at(multiple(alloc, half, 2), 0)
+            && is_wide_at(product(alloc, half, (0, &[2, 0])), 0)
+            && is_wide_at(product(alloc, ones, (-1, &[HALF, HALF])), -1)
+    );
+}
+
+// The same coefficients four exponents earlier.
+fn earlier(alloc: Global, a: Listed) -> Result<Series<Whole>, SeriesFault> {
+    let series = series_of(alloc, a)?;
+    if is_small(&series) {
+        Ok(series.shift(-4))
+    } else {
+        Err(SeriesFault::Memory)
+    }
+}
+
+// A copy of the series, known through 3 alone.
+fn shortened(alloc: Global, a: Listed) -> Result<Series<Whole>, SeriesFault> {
+    let mut short = series_of(alloc, a)?.copy()?;
+    short.truncate(3);
+    Ok(short)
+}
+
+fn cut_before(alloc: Global, a: Listed) -> Result<Series<Whole>, SeriesFault> {
+    Ok(series_of(alloc, a)?.cut(-2))
+}
+
+#[test]
+fn shifts_copies_and_cuts(rt: HostRuntime) {
+    let later: Listed = (2, &[1, 0, 0]);
+    assert!(rt;
+        shows(earlier(rt.alloc(), later), (-2, &[1, 0, 0]))
+            && shows(shortened(rt.alloc(), later), (2, &[1, 0]))
+            && shows(cut_before(rt.alloc(), later), (-1, &[]))
+    );
 }
 
 // The quotient, where the divisor begins with one at 0.
@@ -162,37 +161,34 @@ fn quotient<C: Ring>(a: &Series<C>, b: &Series<C>, one: &C) -> Result<Series<C>,
     }
 }
 
-// Whether the series of these numbers, the first at `low`, by that of the others, from 0 on, has these coefficients.
-fn divides(
-    alloc: Global,
-    low: i64,
-    dividend: &[i128],
-    divisor: &[i128],
-    want: &[i128],
-) -> Result<bool, Fail> {
-    let one = Whole::one(alloc)?;
-    let a = series_of(alloc, low, dividend)?;
-    let b = series_of(alloc, 0, divisor)?;
-    let found = quotient(&a, &b, &one)?;
-    Ok(shows(&found, low, want))
+fn divided(alloc: Global, a: Listed, b: Listed) -> Result<Series<Whole>, SeriesFault> {
+    let one = Whole::new(1).ok_or(SeriesFault::Memory)?;
+    quotient(&series_of(alloc, a)?, &series_of(alloc, b)?, &one)
 }
 
 #[test]
-fn quotients(rt: HostRuntime) -> Result<(), Fail> {
-    let root = [1, -1, 3, -6, 13];
-    assert!(rt; divides(rt.alloc(), 0, &[1, 0, 0, 0], &[1, -1, 0, 0], &[1, 1, 1, 1])?);
-    assert!(rt; divides(rt.alloc(), 0, &[1, -2, 7, -18, 47], &root, &root)?);
-    assert!(rt; divides(rt.alloc(), -1, &[1, 0, 0, 0], &[1, -1, 3], &[1, 1, -2])?);
-    Ok(())
+fn quotients(rt: HostRuntime) {
+    let alloc = rt.alloc();
+    let root: Listed = (0, &[1, -1, 3, -6, 13]);
+    assert!(rt;
+        shows(divided(alloc, (0, &[1, -2, 7, -18, 47]), root), root)
+            && shows(
+                divided(alloc, (-1, &[1, 0, 0, 0]), (0, &[1, -1, 3])),
+                (-1, &[1, 1, -2])
+            )
+            && is_wide_at(
+                divided(alloc, (-1, &[1, i128::MAX]), (0, &[1, -1, 0, 0])),
+                0
+            )
+    );
 }
 
-#[test]
-fn wide_quotients(rt: HostRuntime) -> Result<(), Fail> {
-    let one = Whole::one(rt.alloc())?;
-    let most = series_of(rt.alloc(), -1, &[1, i128::MAX])?;
-    let b = series_of(rt.alloc(), 0, &[1, -1, 0, 0])?;
-    assert!(rt; wide_at(quotient(&most, &b, &one)) == Some(0));
-    Ok(())
+// 1 / (1 + x) modulo 7, through 1.
+fn alternating(alloc: Global) -> Result<Series<Residue<7>>, SeriesFault> {
+    let one = Residue::<7>::one(alloc).ok().ok_or(SeriesFault::Memory)?;
+    let a = Series::new(0, vec![in alloc; one, Residue::new(0)]?);
+    let b = Series::new(0, vec![in alloc; one; 2]?);
+    quotient(&a, &b, &one)
 }
 
 // Whether the coefficient at n is this remainder.
@@ -202,13 +198,8 @@ fn has_remainder(series: &Series<Residue<7>>, n: i64, want: u64) -> bool {
 
 #[test]
 fn quotients_of_remainders(rt: HostRuntime) -> Result<(), Fail> {
-    let zero = Residue::<7>::zero(rt.alloc())?;
-    let one = Residue::<7>::one(rt.alloc())?;
-    let a = Series::new(0, vec![in rt.alloc(); one, zero, zero]?);
-    let b = Series::new(0, vec![in rt.alloc(); one, one, zero]?);
-    let alternating = quotient(&a, &b, &one)?;
-    assert!(rt; has_remainder(&alternating, 0, 1) && has_remainder(&alternating, 1, 6));
-    assert!(rt; has_remainder(&alternating, 2, 1) && alternating.upto() == 2);
+    let found = alternating(rt.alloc())?;
+    assert!(rt; has_remainder(&found, 0, 1) && has_remainder(&found, 1, 6));
     Ok(())
 }
 
@@ -221,6 +212,11 @@ fn term<C: Ring>(alloc: Global, n: i64, c: C) -> Result<LPoly<C>, RingFault> {
     } else {
         Err(RingFault::Memory)
     }
+}
+
+// The power `n` of the variable times this number.
+fn power(alloc: Global, n: i64, number: i128) -> Result<LPoly<Whole>, RingFault> {
+    term(alloc, n, Whole::new(number).ok_or(RingFault::Memory)?)
 }
 
 // x * y, where the exponents are small.
@@ -241,9 +237,6 @@ fn difference_of_squares<C: Ring>(x: &C, y: &C) -> Result<C, RingFault> {
 
 // Whether these are the coefficients from `low` on, and there are no others.
 fn spells(polynomial: &LPoly<Whole>, low: i64, numbers: &[i128]) -> bool {
-    if polynomial.coefficient(low.wrapping_sub(1)).is_some() {
-        return false;
-    }
     let mut n = low;
     for number in numbers {
         match polynomial.coefficient(n) {
@@ -252,42 +245,68 @@ fn spells(polynomial: &LPoly<Whole>, low: i64, numbers: &[i128]) -> bool {
         }
         n = n.wrapping_add(1);
     }
-    polynomial.coefficient(n).is_none()
+    polynomial.coefficient(n).is_none() && polynomial.coefficient(low.wrapping_sub(1)).is_none()
+}
+
+// Whether its exponents go from 0 to 2.
+fn spans_two<C: Ring>(polynomial: &LPoly<C>) -> bool {
+    matches!(polynomial.span(), Some((0, 2))) && polynomial.reach() == 2
+}
+
+// Whether it is its copy, and not its double.
+fn is_told<C: Ring>(polynomial: &LPoly<C>) -> Result<bool, RingFault> {
+    let double = polynomial.add(polynomial)?;
+    Ok(polynomial.same(&polynomial.copy()?) && !polynomial.same(&double))
+}
+
+// 1 - x^2, as a product.
+fn one_without_a_square(alloc: Global) -> Result<LPoly<Whole>, RingFault> {
+    difference_of_squares(&LPoly::one(alloc)?, &power(alloc, 1, 1)?)
 }
 
 #[test]
 fn polynomials(rt: HostRuntime) -> Result<(), Fail> {
-    let one = LPoly::<Whole>::one(rt.alloc())?;
-    let x = term(rt.alloc(), 1, whole(1)?)?;
-    let squares = difference_of_squares(&one, &x)?;
-    assert!(rt; spells(&squares, 0, &[1, 0, -1]));
-    assert!(rt; squares.span() == Some((0, 2)) && squares.reach() == 2);
-    assert!(rt; squares.same(&squares.copy()?) && !squares.same(&x));
+    let squares = one_without_a_square(rt.alloc())?;
+    assert!(rt; spells(&squares, 0, &[1, 0, -1]) && spans_two(&squares) && is_told(&squares)?);
     Ok(())
+}
+
+// Whether x less itself is zero, which has no exponents and adds nothing.
+fn is_cancelled(alloc: Global, x: &LPoly<Whole>) -> Result<bool, RingFault> {
+    let nought = x.add(&x.neg()?)?;
+    nought.known();
+    Ok(
+        nought.span().is_none()
+            && nought.same(&LPoly::zero(alloc)?)
+            && x.add(&nought)?.same(x)
+            && nought.add(x)?.same(x),
+    )
 }
 
 #[test]
 fn polynomials_that_are_zero(rt: HostRuntime) -> Result<(), Fail> {
-    let far = term(rt.alloc(), FAR, whole(1)?)?;
-    let zero = far.add(&far.neg()?)?;
-    zero.known();
-    assert!(rt; zero.span().is_none() && zero.same(&LPoly::zero(rt.alloc())?));
-    assert!(rt; far.add(&zero)?.same(&far));
-    assert!(rt; zero.add(&far)?.same(&far));
+    let far = power(rt.alloc(), FAR, 1)?;
+    assert!(rt; is_cancelled(rt.alloc(), &far)?);
     Ok(())
 }
 
-// Whether the answer is too wide.
 fn is_wide(answer: Result<LPoly<Whole>, RingFault>) -> bool {
     matches!(answer, Err(RingFault::Wide))
 }
 
+fn doubled(alloc: Global, number: i128) -> Result<LPoly<Whole>, RingFault> {
+    let half = power(alloc, -3, number)?;
+    half.add(&half)
+}
+
+fn squared(alloc: Global, number: i128) -> Result<LPoly<Whole>, RingFault> {
+    let half = power(alloc, 1, number)?;
+    small_product(&half, &half)
+}
+
 #[test]
-fn wide_polynomials(rt: HostRuntime) -> Result<(), Fail> {
-    let half = term(rt.alloc(), -3, whole(HALF)?)?;
-    let two = term(rt.alloc(), 1, whole(2)?)?;
-    assert!(rt; is_wide(half.add(&half)) && is_wide(small_product(&half, &two)));
-    Ok(())
+fn wide_polynomials(rt: HostRuntime) {
+    assert!(rt; is_wide(doubled(rt.alloc(), HALF)) && is_wide(squared(rt.alloc(), HALF)));
 }
 
 // Whether the coefficient at n has these coefficients, from `low` on, and no others.
@@ -298,21 +317,28 @@ fn spells_at(polynomial: &LPoly<LPoly<Whole>>, n: i64, low: i64, numbers: &[i128
     }
 }
 
+// s^2 - x^2 as a product, where s is the variable of the coefficients.
+fn squares_of_two(alloc: Global) -> Result<LPoly<LPoly<Whole>>, RingFault> {
+    let s = term(alloc, 0, power(alloc, 1, 1)?)?;
+    let x = term(alloc, 1, LPoly::one(alloc)?)?;
+    difference_of_squares(&s, &x)
+}
+
 #[test]
 fn polynomials_over_polynomials(rt: HostRuntime) -> Result<(), Fail> {
-    let s = term(rt.alloc(), 0, term(rt.alloc(), 1, whole(1)?)?)?;
-    let x = term(rt.alloc(), 1, LPoly::<Whole>::one(rt.alloc())?)?;
-    let squares = difference_of_squares(&s, &x)?;
-    assert!(rt; squares.span() == Some((0, 2)) && squares.reach() == 2);
-    assert!(rt; spells_at(&squares, 0, 2, &[1]) && spells_at(&squares, 1, 0, &[]));
-    assert!(rt; spells_at(&squares, 2, 0, &[-1]));
+    let squares = squares_of_two(rt.alloc())?;
+    assert!(rt;
+        spans_two(&squares)
+            && spells_at(&squares, 0, 2, &[1])
+            && spells_at(&squares, 1, 0, &[])
+            && spells_at(&squares, 2, 0, &[-1])
+    );
     Ok(())
 }
 
 #[test]
-fn laws_over_whole_numbers() -> Result<(), Fail> {
+fn laws_over_whole_numbers() {
     laws::sums_and_products_of_series::<Whole>();
     laws::quotients_of_series::<Whole>();
     laws::polynomials_are_a_ring::<Whole>();
-    Ok(())
 }
