@@ -26,3 +26,4 @@ pub mod KeptOnes
 pub mod Joins
 pub mod StateClasses
 pub mod Degrees
+pub mod Numbered

@@ -1,6 +1,7 @@
 -- What is true of a step along a frontier, as laws: one corner more is one convolution for each state and each choice on the new
 -- edges.
 --
+-- PickedByNumber     == the edges that are picked by number, as the pending ones are, are those that are picked from the list
 -- FirstState         == before all corners the one state has 1 at class zero and exponent 0
 -- OneStateAtEnds w d == before all corners and after them there is one state, with no choice to make
 -- EndStates          == so it is of every web
@@ -9,9 +10,10 @@
 -- JoinsWithin        == nothing is joined where what the corner sees has a degree over d
 -- ClassesStep        == which classes a state has after one corner more
 -- WholeClasses       == once all corners are taken, the one state has the classes of the assignments of degree at most d
-use Rattle.std.specs.Prelude.{◌≡◌, Contains, ℕ, suc, ◌<◌, ◌↔◌, cond, ◌&&◌, int_le, ℤ, pos, ◌≤ℤ◌, ◌<ℤ◌, List, [], ◌∷◌, length}
+use Rattle.std.specs.Prelude.{◌≡◌, Contains, ℕ, suc, ◌<◌, ◌↔◌, cond, ◌&&◌, int_le, ℤ, pos, ◌≤ℤ◌, ◌<ℤ◌, List, [], ◌∷◌, map, filter, length, slice_index_or, Bool}
 use Rattle.std.specs.Ordering.{int_eq}
-use Rattle.tv_spec_plane.specs.Web.{Web, degree_of}
+use Rattle.tv_spec_plane.specs.declared.records.CompactEdge.{CompactEdge}
+use Rattle.tv_spec_plane.specs.Web.{Web, compact, below, no_edge, degree_of}
 use Rattle.tv_spec_plane.specs.Graded.{IsGraded}
 use Rattle.tv_spec_boxes.specs.Assignments.{Rows, class_of, zeros, same_vector}
 use Rattle.tv_spec_boxes.specs.Classes.{IsClass}
@@ -19,6 +21,13 @@ use Rattle.tv_spec_boxes.specs.Numbers.{lowest, box_bound}
 use Rattle.tv_laws_frontier.specs.Frontier.{state_number, kept_upto}
 use Rattle.tv_laws_frontier.specs.Steps.{states, options, near_part, joined, stepped}
 use Rattle.tv_laws_frontier.specs.StateClasses.{HasClass, ComesFrom}
+
+abbrev pub PickedByNumber : Type 0
+PickedByNumber =
+    (w : Web) (p : CompactEdge → Bool) →
+    map (λ (k : ℕ). slice_index_or (compact w) k no_edge)
+    (filter (λ (k : ℕ). p (slice_index_or (compact w) k no_edge)) (below (length (compact w))))
+    ≡ filter p (compact w)
 
 abbrev pub FirstState : Type 0
 FirstState =

@@ -2,7 +2,8 @@
 
 ghost use Rattle.tv_laws_frontier.specs.Laws.{KeptIsTold, KeptOnes, KeptOnesSigned, ThroughAreKept, KeptAreAll};
 ghost use Rattle.tv_laws_frontier.specs.Laws.{KeptAreCounted, KeptArePartial, WholeIsState, SignOfState};
-ghost use Rattle.tv_laws_frontier.specs.StepLaws.{FirstState, EndStates, StepOfState, JoinsWithin, ClassesStep, WholeClasses};
+ghost use Rattle.tv_laws_frontier.specs.StepLaws.{PickedByNumber, FirstState, EndStates, StepOfState, JoinsWithin};
+ghost use Rattle.tv_laws_frontier.specs.StepLaws.{ClassesStep, WholeClasses};
 ghost use Rattle.tv_laws_frontier.specs.Bounds.{StateWithin, CrowdOfState, CrowdOfJoin, CrowdOfNear};
 
 /// A partial configuration is kept where it and each of its restrictions to fewer corners stand low enough: the test is that.
@@ -48,6 +49,11 @@ pub fn whole_is_state()
 /// The signed sums of a state are its numbers, with the sign of class and exponent.
 pub fn states_have_signs()
     ensures { SignOfState }
+{}
+
+/// The edges that are picked by number, as the pending ones are, are those that are picked from the list.
+pub fn edges_are_numbered()
+    ensures { PickedByNumber }
 {}
 
 /// Before all corners the one state has 1 at class zero and exponent 0.
