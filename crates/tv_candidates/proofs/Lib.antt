@@ -1,0 +1,4 @@
+pub mod Adding
+pub mod Summed
+pub mod Closed
+pub mod Depths
