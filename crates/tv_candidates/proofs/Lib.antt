@@ -2,3 +2,4 @@ pub mod Adding
 pub mod Summed
 pub mod Closed
 pub mod Depths
+pub mod TestSizes

@@ -11,3 +11,6 @@ mod sums;
 
 pub use lists::closed_list;
 pub use slopes::slope;
+
+#[cfg(test)]
+mod tests;
