@@ -23,7 +23,9 @@ odd-part m = refl
 
 choose-central : (m : ℕ) → suc m * choose (2 * suc m) (suc m) ≡ choose (2 * m) m * (4 * m + 2)
 choose-central m =
-    omega (arith, ap (λ x. suc m * x) (two-parts m), ap (λ x. suc m * x) (odd-part m), choose-step (suc (2 * m)) m, choose-step (2 * m) m)
+    let whole = ap (λ x. suc m * x) (two-parts m) in
+    let odd = ap (λ x. suc m * x) (odd-part m) in
+    omega (arith, whole, odd, choose-step (suc (2 * m)) m, choose-step (2 * m) m)
 
 exact : (a b c : ℕ) → suc a * b ≡ c → c / suc a ≡ b
 exact a b c e =

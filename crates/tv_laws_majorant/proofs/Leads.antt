@@ -3,8 +3,9 @@
 -- IsPlaced hs f       == the factor stands at a place by the heights, of a degree of at least 1
 -- size-up             a sum of sizes is at least 0; size-append, the sum over two lists
 -- size_of_member      it is at least the size of each exponent there
+-- power_in-size       it is at least the size of the sum of the exponents there
 -- sizes_below         the product without signs is at least the sum
--- leads_are_bounded   and so is Katz's product without signs
+-- leads_are_bounded   and so is Katz's product without signs; powers_are_bounded, which bounds the sum of the exponents
 use Rattle.std.specs.Prelude.{◌≡◌, Contains, ℕ, zero, suc, ℤ, pos, ◌+ℤ◌, ◌-ℤ◌, ◌*ℤ◌, neg_ℤ, ◌≤ℤ◌, unsigned_abs, true, List, [], ◌∷◌, ◌++◌, map}
 use Rattle.std.specs.List.{AllByRecursion}
 use Rattle.std.specs.Ordering.{int_eq}
@@ -29,13 +30,14 @@ use Rattle.tv_spec_katz.specs.Majorant.{without_sign}
 use Rattle.tv_laws_katz.specs.Further.{IsPositive}
 use Rattle.tv_laws_katz.specs.Weights.{IsWithinSlope}
 use Rattle.tv_laws_katz.specs.Logarithm.{when}
+use Rattle.tv_laws_katz.specs.Gathered.{power_in}
 use Rattle.tv_laws_katz.proofs.BelowSums.{sum_below-front}
 use Rattle.tv_laws_katz.proofs.FurtherInteger.{IsFactorOf, factors-are}
 use Rattle.tv_laws_katz.proofs.LargerBound.{product-absolute}
 use Rattle.tv_laws_katz.proofs.Powers.{power_at-zero, power_at-one, power_at-negsuc}
 use Rattle.tv_laws_katz.proofs.TermSizes.{size_of_product, scaled-size}
 use Rattle.tv_laws_katz.proofs.Units.{unit-one}
-use Rattle.tv_laws_majorant.specs.Laws.{size_in, LeadsAreBounded}
+use Rattle.tv_laws_majorant.specs.Laws.{size_in, LeadsAreBounded, PowersAreBounded}
 
 -- ---- the sum of sizes
 
@@ -80,11 +82,28 @@ size_of_member [] f v n among c e = absurd (let none = among.1 in omega arith)
 size_of_member (g ∷ fs) f v n among c e =
     elim (contains-cases f g fs among) as (λ _. pos (unsigned_abs f.power) ≤ℤ size_in (g ∷ fs) v n) [
       | inl same ↦
-          let here = size_at-here v n g (ap (λ (x : Factor). x.at.class) same ∙ c) (ap (λ (x : Factor). x.at.exponent) same ∙ e) in
+          let class = ap (λ (x : Factor). x.at.class) same ∙ c in
+          let here = size_at-here v n g class (ap (λ (x : Factor). x.at.exponent) same ∙ e) in
           let power = ap (λ (x : Factor). unsigned_abs x.power) same in
           omega (arith, ints, size_in-cons g fs v n, size-up fs v n)
       | inr later ↦ omega (arith, ints, size_in-cons g fs v n, size_at-up v n g, size_of_member fs f v n later c e)
     ]
+
+-- the exponents add up to at most their sizes
+signed_cases : (v : List ℤ) (n : ℤ) (f : Factor) (P : ℤ → ℤ → Type 0) → P (pos 0) (pos 0) →
+    P f.power (pos (unsigned_abs f.power)) →
+    P (when (same_vector f.at.class v) (when (int_eq f.at.exponent n) f.power)) (size_at v n f)
+unfolding size_at
+signed_cases v n f P none here = bool_cases (same_vector f.at.class v)
+    (λ c. bool_cases (int_eq f.at.exponent n) (λ e. rw (c, e) here) (λ e. rw (c, e) none))
+    (λ c. rw c none)
+
+pub power_in-size : (fs : List Factor) (v : List ℤ) (n : ℤ) → pos (unsigned_abs (power_in fs v n)) ≤ℤ size_in fs v n
+unfolding power_in size_in
+power_in-size [] v n = omega (arith, ints)
+power_in-size (f ∷ fs) v n =
+    let one = signed_cases v n f (λ x y. pos (unsigned_abs x) ≤ℤ y) (omega (arith, ints)) (omega (arith, ints)) in
+    omega (arith, ints, size_in-cons f fs v n, one, power_in-size fs v n)
 
 -- ---- terms of at least 0
 
@@ -128,7 +147,8 @@ unfolding product times
 product-terms f fs p = refl
 
 -- without the factor
-first-below : (f : Factor) (fs : List Factor) (p : Place) → product (map without_sign fs) p ≤ℤ product (map without_sign (f ∷ fs)) p
+first-below : (f : Factor) (fs : List Factor) (p : Place) →
+    product (map without_sign fs) p ≤ℤ product (map without_sign (f ∷ fs)) p
 first-below f fs p =
     let front = sum_below-front (term f fs p) (as_natural p.degree) in
     let rest = sum_below-up (λ k. term f fs p (suc k)) (as_natural p.degree) (λ k. term-up f fs p (suc k)) in
@@ -182,8 +202,8 @@ here-below f fs p rising e =
     let up : pos 1 ≤ℤ p.degree = rw (sym e) rising in
     let left = ap (λ x. unit (difference p x)) e ∙ none-left p in
     let least = unit-below fs (difference p f.at) in
-    let more = scaled-size (unsigned_abs f.power) 1 (pos (unsigned_abs f.power)) (product (map without_sign fs) (difference p f.at))
-    refl (omega (arith, ints)) in
+    let more = scaled-size (unsigned_abs f.power) 1 (pos (unsigned_abs f.power))
+    (product (map without_sign fs) (difference p f.at)) refl (omega (arith, ints)) in
     omega (arith, ints, second-below f fs p up)
 
 pub sizes_below : (hs : List ℤ) (fs : List Factor) (v : List ℤ) (n : ℤ) → AllByRecursion (IsPlaced hs) fs →
@@ -215,3 +235,7 @@ pub leads_are_bounded : LeadsAreBounded
 leads_are_bounded hs w is v n J within low =
     let positive = all-onto (IsWithinSlope hs w) (IsPositive hs) (λ i h. h.positive) is within in
     rw (product-absolute hs w is v n J within low) (sizes_below hs (factors hs J is) v n (factors-placed hs J is positive))
+
+pub powers_are_bounded : PowersAreBounded
+powers_are_bounded hs w is v n J within low =
+    omega (arith, ints, power_in-size (factors hs J is) v n, leads_are_bounded hs w is v n J within low)

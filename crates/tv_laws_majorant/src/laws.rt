@@ -1,11 +1,22 @@
 //! Laws of Katz's product without signs: each function does nothing, and its contract is a law. The classes of the integers
 //! have degrees of at least 1 by the heights.
 
-ghost use Rattle.tv_laws_majorant.specs.Laws.{LeadsAreBounded, GenusIsWide, WideMajorant, SteepIsWide};
+ghost use Rattle.tv_laws_majorant.specs.Laws.{LeadsAreBounded, PowersAreBounded, WidePowers, GenusIsWide, WideMajorant, SteepIsWide};
 
 /// At a class and an exponent the product without signs is at least the sum of the sizes of the powers of the factors there.
 pub fn leads_are_bounded()
     ensures { LeadsAreBounded }
+{}
+
+/// And so at least the size of the sum of the powers there.
+pub fn powers_are_bounded()
+    ensures { PowersAreBounded }
+{}
+
+/// Where the sizes of the powers at a class of degree at least 1 add up to more than the limit of whole numbers, the bound is
+/// above it.
+pub fn wide_powers()
+    ensures { WidePowers }
 {}
 
 /// At the class of an integer of genus 66 or more and the exponent 0 the bound is above the limit of whole numbers.
