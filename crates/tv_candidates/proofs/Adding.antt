@@ -28,13 +28,15 @@ none_within x h = let l = h.1 in omega arith
 
 -- ---- classes of one degree
 
-pub degree_tells : (hs : List ℤ) (d : ℤ) (v : List ℤ) (rows : List (Row ℤ)) → Contains (of_degree d (map (with_degree hs) rows)) v →
-    Contains (classes rows) v × (degree_of hs v ≡ d)
+pub degree_tells : (hs : List ℤ) (d : ℤ) (v : List ℤ) (rows : List (Row ℤ)) →
+    Contains (of_degree d (map (with_degree hs) rows)) v → Contains (classes rows) v × (degree_of hs v ≡ d)
 degree_tells hs d v [] there = absurd (none_within v there)
 degree_tells hs d v (x ∷ rows) there = bool_cases (int_eq (degree_of hs x.class) d)
     (λ b. elim (contains-cases v x.class (of_degree d (map (with_degree hs) rows)) (rw b at there)) as
     (λ _. Contains (classes (x ∷ rows)) v × (degree_of hs v ≡ d)) [
-      | inl e ↦ (contains-head v x.class (classes rows) e, ap (degree_of hs) (sym e) ∙ (Decides-int_eq (degree_of hs x.class) d).0 b)
+      | inl e ↦
+          let same = ap (degree_of hs) (sym e) ∙ (Decides-int_eq (degree_of hs x.class) d).0 b in
+          (contains-head v x.class (classes rows) e, same)
       | inr k ↦ let rest = degree_tells hs d v rows k in (contains-later v x.class (classes rows) rest.0, rest.1)
     ])
     (λ b. let rest = degree_tells hs d v rows (rw b at there) in (contains-later v x.class (classes rows) rest.0, rest.1))
@@ -45,7 +47,7 @@ degree_has hs d v [] there same = absurd (none_within v there)
 degree_has hs d v (x ∷ rows) there same = elim (contains-cases v x.class (classes rows) there) as
     (λ _. Contains (of_degree d (map (with_degree hs) (x ∷ rows))) v) [
       | inl e ↦
-          let b : int_eq (degree_of hs x.class) d ≡ true = (Decides-int_eq (degree_of hs x.class) d).1 (ap (degree_of hs) e ∙ same) in
+          let b = (Decides-int_eq (degree_of hs x.class) d).1 (ap (degree_of hs) e ∙ same) in
           rw b (contains-head v x.class (of_degree d (map (with_degree hs) rows)) e)
       | inr k ↦ bool_cases (int_eq (degree_of hs x.class) d)
           (λ b. rw b (contains-later v x.class (of_degree d (map (with_degree hs) rows)) (degree_has hs d v rows k same)))
@@ -113,7 +115,13 @@ added_none f = record {
   heights = refl;
   top = refl;
   upto = refl;
-  members = λ u. (λ h. inr h, λ h. elim h as (λ _. Contains (classes f.rows) u) [ inl none ↦ absurd (none_within u none) | inr k ↦ k ]);
+  members = λ u. (
+    λ h. inr h,
+    λ h. elim h as (λ _. Contains (classes f.rows) u) [
+      | inl none ↦ absurd (none_within u none)
+      | inr k ↦ k
+    ],
+  );
 }
 
 either_part : (v : List ℤ) (us : List (List ℤ)) (u : List ℤ) → Contains (us ++ v ∷ []) u → Contains us u ⊎ Contains (v ∷ []) u

@@ -47,9 +47,11 @@ HasSmallRows f = AllByRecursion (λ v. HasPlace f.heights f.top v × HasSmallEnt
 
 pub family_places : (f : Family ℤ) → IsFamily IsAny wholes f → AllByRecursion (HasPlace f.heights f.top) (classes f.rows)
 family_places f family = classes_all (HasPlace f.heights f.top) f.rows
-    (all_rows (IsRow IsAny wholes f.heights f.top f.upto) (λ x. HasPlace f.heights f.top x.class) f.rows (λ x is. is.place) family.rows)
+    (all_rows (IsRow IsAny wholes f.heights f.top f.upto) (λ x. HasPlace f.heights f.top x.class) f.rows (λ x is. is.place)
+    family.rows)
 
-pub small_rows : (f : Family ℤ) → IsFamily IsAny wholes f → AllByRecursion (HasSmallEntries f.heights) (classes f.rows) → HasSmallRows f
+pub small_rows : (f : Family ℤ) → IsFamily IsAny wholes f → AllByRecursion (HasSmallEntries f.heights) (classes f.rows) →
+    HasSmallRows f
 small_rows f family small = all-both (HasPlace f.heights f.top) (HasSmallEntries f.heights)
     (λ v. HasPlace f.heights f.top v × HasSmallEntries f.heights v) (λ v place entries. (place, entries)) (classes f.rows)
     (family_places f family) small
@@ -121,7 +123,10 @@ round_next f g h i d k e split most closed round adds = record {
 
     news : AllByRecursion (IsNew f d) (sums_at k e h)
     news = each_sum h k e (IsNew f d) (round_small f g h d k most closed round)
-        (λ v is same. record { small = rw (← split, ← round.heights) is; degree = ap (λ hs. degree_of hs v) (sym round.heights) ∙ (same ∙ split) })
+        (λ v is same. record {
+          small = rw (← split, ← round.heights) is;
+          degree = ap (λ hs. degree_of hs v) (sym round.heights) ∙ (same ∙ split);
+        })
 
 pub round_last : (f g h : Family ℤ) (d : ℤ) → IsClosedTo f (d -ℤ pos 1) g → IsRound f g d d h → IsClosedTo f d h
 round_last f g h d closed round = record {

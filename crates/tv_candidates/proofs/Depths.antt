@@ -48,8 +48,12 @@ nought_next s e below here n h = by_lt_z n e (λ less. below n less)
 pub depth_none : (s : Terms ℤ) → IsNoughtBelow s (pos 0) → IsDepth s 0
 depth_none s below = record { below = λ m h. below m (omega (arith, ints)); first = λ h. absurd (omega arith) }
 
-pub depth_here : (s : Terms ℤ) (e : ℤ) (n : ℕ) → e ≡ neg_ℤ (pos n) → IsNoughtBelow s e → (coefficient wholes s e ≡ pos 0 → ⊥) → IsDepth s n
-depth_here s e n same below other = record { below = λ m h. below m (omega (arith, ints)); first = λ h none. other (rw same none) }
+pub depth_here : (s : Terms ℤ) (e : ℤ) (n : ℕ) → e ≡ neg_ℤ (pos n) → IsNoughtBelow s e → (coefficient wholes s e ≡ pos 0 → ⊥) →
+    IsDepth s n
+depth_here s e n same below other = record {
+  below = λ m h. below m (omega (arith, ints));
+  first = λ h none. other (rw same none);
+}
 
 pub depth_end : (s : Terms ℤ) (e end : ℤ) → end ≡ int_min (upto s +ℤ pos 1) (pos 0) → end ≤ℤ e → IsNoughtBelow s e → IsDepth s 0
 depth_end s e end is past below = depth_none s (λ m h. by_lt_z m e (λ less. below m less)

@@ -67,7 +67,8 @@ each_sum f d e P small here = all-flat_map (IsSmallAt f.heights f.top d) P (λ u
     let one = first.degree in
     let other = second.degree in
     let sum = degree_of-plus f.heights u v in
-    here (plus u v) (sum_is f.heights f.top f.top (d +ℤ e) u v first.small second.small (omega (arith, ints))) (omega (arith, ints)))
+    let small_sum = sum_is f.heights f.top f.top (d +ℤ e) u v first.small second.small (omega (arith, ints)) in
+    here (plus u v) small_sum (omega (arith, ints)))
     (of_degree e (listed f)) (small_at f e small))
     (of_degree d (listed f)) (small_at f d small)
 
@@ -99,7 +100,9 @@ can_add f d e small within most = record {
 pub have_places : (f : Family ℤ) (d e : ℤ) → HasSmallClasses f → (d +ℤ e) ≤ℤ f.top →
     AllByRecursion (HasPlace f.heights f.top) (sums_at d e f)
 have_places f d e small within = each_sum f d e (HasPlace f.heights f.top) small
-    (λ v is same. let up = is.positive in record { entries = is.entries; positive = omega (arith, ints); within = omega (arith, ints) })
+    (λ v is same.
+    let up = is.positive in
+    record { entries = is.entries; positive = omega (arith, ints); within = omega (arith, ints) })
 
 pub has_sum : (f : Family ℤ) (d e : ℤ) (u v : List ℤ) → Contains (classes f.rows) u → Contains (classes f.rows) v →
     degree_of f.heights u ≡ d → degree_of f.heights v ≡ e → Contains (sums_at d e f) (plus u v)

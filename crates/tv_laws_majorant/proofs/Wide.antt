@@ -88,7 +88,8 @@ absolute-least hs is i positive among other up =
     let own = size_of_member (factors hs J is) (middle hs i) i.class (pos 0) (middle-among hs J is i among up) refl
     (omega (arith, ints)) in
     let size = middle-size i other up in
-    size-above (choose (2 * (i.genus - 1)) (i.genus - 1)) (product (map without_sign (factors hs J is)) (place hs i.class (pos 0)))
+    size-above (choose (2 * (i.genus - 1)) (i.genus - 1))
+    (product (map without_sign (factors hs J is)) (place hs i.class (pos 0)))
     (omega (arith, ints))
 
 twice-least : (d a : ℕ) → 1 ≤ d → 2 * a ≤ (2 * d) * a

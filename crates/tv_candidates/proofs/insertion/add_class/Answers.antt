@@ -11,4 +11,5 @@ returns-then-is_some c =
     record { added = added_same v c.args.family.now there }
 
 pub returns-in-Ok : goal.returns-in-Ok
-returns-in-Ok c = record { added = added_one c.args.class c.new-2.result c.args.family.now c.add_into.new.self c.in-Ok.ensures.ok }
+returns-in-Ok c =
+    record { added = added_one c.args.class c.new-2.result c.args.family.now c.add_into.new.self c.in-Ok.ensures.ok }

@@ -40,7 +40,8 @@ returns c =
     let fits : SFits w64 c.top-degree-end.result = search rules in
     let end = end_is c.top-degree-end.result f.top fits c.top-degree-end.ensures.value c.requires.top in
     let test = rw end at c.loop-degree-test.false in
-    let closed = closed_is f c.loop-degree.closed (d -ℤ pos 1) (omega (arith, ints)) c.loop-degree.invariant.closed c.known.ensures.family in
+    let closed = closed_is f c.loop-degree.closed (d -ℤ pos 1) (omega (arith, ints)) c.loop-degree.invariant.closed
+    c.known.ensures.family in
     record {
       value = IfOk-weaker c.classes_of.result (λ found. found.items ≡ classes c.loop-degree.closed.rows)
           (λ list. IsClosedList (as_natural f.top) f list.items) (λ list same. rw same closed) c.classes_of.ensures.value;

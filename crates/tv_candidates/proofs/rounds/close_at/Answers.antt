@@ -19,8 +19,8 @@ loop-first-init c =
     rw degree (record {
       least = omega (arith, ints);
       most = c.requires.positive;
-      round = round_first f c.args.closed.now c.add_classes.new.family c.args.degree (small_rows f c.known.ensures.family c.requires.small)
-          c.requires.positive c.requires.closed adds;
+      round = round_first f c.args.closed.now c.add_classes.new.family c.args.degree
+          (small_rows f c.known.ensures.family c.requires.small) c.requires.positive c.requires.closed adds;
     })
 
 pub add_sums_at-requires-clause-small : goal.add_sums_at-requires-clause-small

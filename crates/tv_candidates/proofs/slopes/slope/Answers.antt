@@ -14,12 +14,13 @@ pub loop-entry-preserved : goal.loop-entry-preserved
 loop-entry-preserved c =
     let entry = c.in-Some.entry in
     let fits : SFits w64 entry.degree = search rules in
+    let degree = to_z-of_z w64 entry.degree fits in
     record {
       can = tt;
       finite = tt;
       whole = above_next (listed c.args.family.now) c.loop-entry.entry-iterator c.next.new.self
           (row entry.class.now entry.series.now, entry.degree) c.loop-entry.slope c.slope_at.result c.max-slope.result
-          c.in-Some.ensures.steps c.loop-entry.invariant.whole (λ k. rw (to_z-of_z w64 entry.degree fits) at c.slope_at.ensures.value k)
+          c.in-Some.ensures.steps c.loop-entry.invariant.whole (λ k. rw degree at c.slope_at.ensures.value k)
           c.max-slope.ensures;
     }
 

@@ -19,4 +19,7 @@ loop-entry-preserved c =
     record { can = tt; finite = tt; whole = λ small. c.loop-entry.invariant.whole (rw (c.in-Some.ensures.steps) (one, small)) }
 
 pub returns : goal.returns
-returns c = record { small = λ _. small_classes c.args.family.now.heights c.args.family.now.rows (c.loop-entry.invariant.whole (rw (c.in-None.ensures.steps.0) tt)) }
+returns c = record {
+  small = λ _. small_classes c.args.family.now.heights c.args.family.now.rows
+      (c.loop-entry.invariant.whole (rw (c.in-None.ensures.steps.0) tt));
+}
