@@ -20,13 +20,13 @@ use Rattle.tv_text.specs.declared.series.Kind.TheVariants.{Full, Reduced}
 use Rattle.tv_text.specs.Sections.{kind_word}
 use Rattle.tv_top.specs.Commands.{IsSide, IsDegree, IsOrder, IsSeries, IsGenerate, IsSummaryOf, IsCommand, Asks, side_of}
 use Rattle.tv_top.specs.Acceptance.{turned_web, IsFile, IsAccepted, IsUnsoundBy}
-use Rattle.tv_top.specs.Reports.{IsWide}
+use Rattle.tv_top.specs.Reports.{IsWide, IsDiffers}
 use Rattle.tv_top.specs.Rejections.{FaultOf}
 use Rattle.tv_top.specs.Answers.{Change, Gave, IsOver, IsOn, Deserves, DeservesFile, Told, Answers}
 use Rattle.tv_top.specs.Completeness.{Completes, IsGiven}
 use Rattle.tv_top.specs.declared.command.TheConstants.{MIN_SIDE, MAX_SIDE, MAX_DEGREE, MIN_ORDER, MAX_ORDER}
 use Rattle.tv_top.specs.declared.command.Command.{Command}
-use Rattle.tv_top.specs.declared.command.Command.TheVariants.{Check, Series, Generate, Summary}
+use Rattle.tv_top.specs.declared.command.Command.TheVariants.{Check, Series, Gv, Generate, Summary}
 use Rattle.tv_top.specs.declared.status.Status.{Status}
 use Rattle.tv_top.specs.declared.status.Status.TheVariants.{Done, Words, File, Wide, Differs, Memory, ReadFault, WriteFault}
 use Rattle.tv_top.proofs.Reading.{one_file, within_limits, few_bytes, read_or_refused}
@@ -101,6 +101,9 @@ refused_or_accepted ws io text told w e a d = elim d.ended [
 wide_along : (c d : Command) (v w : Web) (line : TextLine) → d ≡ c → v ≡ w → IsWide d v line → (l : TextLine) × IsWide c w l
 wide_along c d v w line p q h = (line, subst (λ k. IsWide k w line) p (subst (λ u. IsWide d u line) q h))
 
+differs_along : (c d : Command) (v w : Web) (line : TextLine) → d ≡ c → v ≡ w → IsDiffers d v line → (l : TextLine) × IsDiffers c w l
+differs_along c d v w line p q h = (line, subst (λ k. IsDiffers k w line) p (subst (λ u. IsDiffers d u line) q h))
+
 -- a command is about one web
 
 side_along : (c d : Command) → c ≡ d → side_of c ≡ side_of d
@@ -121,7 +124,7 @@ given_or_file ws io text (Some k) w given file d = none_or_some k (Some k) refl 
 
 -- what the deserved statuses are
 by_accepted : (ws : List Word) (io : Change) (c : Command) (w : Web) → Asks ws c → IsGiven (side_of c) io w → (Rose io.before.faults io.after.faults → ⊥)
-    → (s : Status) (text : List ℕ) → Deserves ws io s text → (s ≡ Done) ⊎ (((s ≡ Wide) × ((l : TextLine) × IsWide c w l)) ⊎ (s ≡ Memory))
+    → (s : Status) (text : List ℕ) → Deserves ws io s text → (s ≡ Done) ⊎ (((s ≡ Wide) × ((l : TextLine) × IsWide c w l)) ⊎ (((s ≡ Differs) × ((l : TextLine) × IsDiffers c w l)) ⊎ (s ≡ Memory)))
 by_accepted ws io c w q a n Done text d = inl refl
 by_accepted ws io c w q a n Words text d = absurd (IsPlace-none IsCommand ws d.place (c, q) d.outside)
 by_accepted ws io c w q a n File text d =
@@ -130,8 +133,11 @@ by_accepted ws io c w q a n Wide text d =
     let same : d.command ≡ c = same_command ws d.command c d.on.asked q in
     let web : d.web ≡ w = given_web (side_of c) io d.web w (subst (λ k. IsOver (side_of k) io d.web) same d.on.over) a in
     inr (inl (refl, wide_along c d.command d.web w d.refusal same web d.wide))
-by_accepted ws io c w q a n Differs text d = absurd d
-by_accepted ws io c w q a n Memory text d = inr (inr refl)
+by_accepted ws io c w q a n Differs text d =
+    let same : d.command ≡ c = same_command ws d.command c d.on.asked q in
+    let web : d.web ≡ w = given_web (side_of c) io d.web w (subst (λ k. IsOver (side_of k) io d.web) same d.on.over) a in
+    inr (inr (inl (refl, differs_along c d.command d.web w d.refusal same web d.differs)))
+by_accepted ws io c w q a n Memory text d = inr (inr (inr refl))
 by_accepted ws io c w q a n ReadFault text d = absurd (n (rose-once _ _ d.rose))
 by_accepted ws io c w q a n WriteFault text d = absurd d
 
@@ -152,7 +158,7 @@ by_refused ws io c told f q file e x n Done text d = absurd (on_refused ws io c 
 by_refused ws io c told f q file e x n Words text d = absurd (IsPlace-none IsCommand ws d.place (c, q) d.outside)
 by_refused ws io c told f q file e x n File text d = inl refl
 by_refused ws io c told f q file e x n Wide text d = absurd (on_refused ws io c d.command told d.web f q file e d.on x)
-by_refused ws io c told f q file e x n Differs text d = absurd d
+by_refused ws io c told f q file e x n Differs text d = absurd (on_refused ws io c d.command told d.web f q file e d.on x)
 by_refused ws io c told f q file e x n Memory text d = inr refl
 by_refused ws io c told f q file e x n ReadFault text d = absurd (n (rose-once _ _ d.rose))
 by_refused ws io c told f q file e x n WriteFault text d = absurd d
@@ -162,7 +168,7 @@ by_words ws io k p Done text d = absurd (IsPlace-none IsCommand ws k (d.command,
 by_words ws io k p Words text d = inl refl
 by_words ws io k p File text d = absurd (IsPlace-none IsCommand ws k (d.command, d.asked) p)
 by_words ws io k p Wide text d = absurd (IsPlace-none IsCommand ws k (d.command, d.on.asked) p)
-by_words ws io k p Differs text d = absurd d
+by_words ws io k p Differs text d = absurd (IsPlace-none IsCommand ws k (d.command, d.on.asked) p)
 by_words ws io k p Memory text d = inr refl
 by_words ws io k p ReadFault text d = absurd (IsPlace-none IsCommand ws k (d.command, d.asked) p)
 by_words ws io k p WriteFault text d = absurd d

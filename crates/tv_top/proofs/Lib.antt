@@ -5,6 +5,7 @@ pub mod Told
 pub mod FullReport
 pub mod ReducedReport
 pub mod WideNumbers
+pub mod IntegersReport
 pub mod SummaryReport
 pub mod Reading
 pub mod RejectedReply

@@ -61,7 +61,7 @@ deserves ws io c bytes Done text q e g l h = record { command = c; web = h.0; on
 deserves ws io c bytes Wide text q e g l h = record { command = c; web = h.0; refusal = h.2.0; on = record { asked = q; over = over_file (side_of c) io bytes h.0 e g h.1 }; wide = h.2.1; line = h.2.2 }
 deserves ws io c bytes File text q e g l h = record { command = c; bytes = bytes; fault = h.0; asked = q; file = e; taken = g.taken; ended = inr (l, g.ended); kept = g.kept; refused = h.1; line = h.2 }
 deserves ws io c bytes Words text q e g l h = absurd h.2
-deserves ws io c bytes Differs text q e g l h = absurd h.2
+deserves ws io c bytes Differs text q e g l h = record { command = c; web = h.0; refusal = h.2.0; on = record { asked = q; over = over_file (side_of c) io bytes h.0 e g h.1 }; differs = h.2.1; line = h.2.2 }
 deserves ws io c bytes MemoryStatus text q e g l h = absurd h.2
 deserves ws io c bytes ReadFault text q e g l h = absurd h.2
 deserves ws io c bytes WriteFault text q e g l h = absurd h.2
@@ -76,7 +76,7 @@ grid_deserves ws s c k Done text q e h = record { command = c; web = grid k; on 
 grid_deserves ws s c k Wide text q e h = record { command = c; web = grid k; refusal = h.0; on = record { asked = q; over = rw e (refl, refl) }; wide = h.1; line = h.2 }
 grid_deserves ws s c k File text q e h = absurd h
 grid_deserves ws s c k Words text q e h = absurd h
-grid_deserves ws s c k Differs text q e h = absurd h
+grid_deserves ws s c k Differs text q e h = record { command = c; web = grid k; refusal = h.0; on = record { asked = q; over = rw e (refl, refl) }; differs = h.1; line = h.2 }
 grid_deserves ws s c k MemoryStatus text q e h = absurd h
 grid_deserves ws s c k ReadFault text q e h = absurd h
 grid_deserves ws s c k WriteFault text q e h = absurd h

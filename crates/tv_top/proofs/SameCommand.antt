@@ -6,10 +6,10 @@ use Rattle.tv_spec_text.proofs.Readings.{spelled_injective}
 use Rattle.tv_text.specs.declared.series.Kind.{Kind}
 use Rattle.tv_text.specs.declared.series.Kind.TheVariants.{Full, Reduced}
 use Rattle.tv_text.specs.Sections.{kind_word}
-use Rattle.tv_top.specs.Commands.{IsSide, IsDegree, IsOrder, IsSeries, IsGenerate, IsSummaryOf, Asks}
-use Rattle.tv_top.specs.declared.command.TheConstants.{MIN_SIDE, MAX_SIDE, MAX_DEGREE, MIN_ORDER, MAX_ORDER}
+use Rattle.tv_top.specs.Commands.{IsSide, IsDegree, IsOrder, IsIntegersOrder, IsSeries, IsGv, IsGenerate, IsSummaryOf, Asks}
+use Rattle.tv_top.specs.declared.command.TheConstants.{MIN_SIDE, MAX_SIDE, MAX_DEGREE, MIN_ORDER, MIN_INTEGERS_ORDER, MAX_ORDER}
 use Rattle.tv_top.specs.declared.command.Command.{Command}
-use Rattle.tv_top.specs.declared.command.Command.TheVariants.{Check, Series, Generate, Summary}
+use Rattle.tv_top.specs.declared.command.Command.TheVariants.{Check, Series, Gv, Generate, Summary}
 use Rattle.tv_top.proofs.WordPlaces.{head, tail, same_name, name_of, asks_words}
 use Rattle.tv_top.proofs.Between.{between_is_number}
 
@@ -30,6 +30,9 @@ same_degree d e p q s =
 same_order : (y z : ℤ) → IsOrder y → IsOrder z → spelled y ≡ spelled z → y ≡ z
 same_order y z p q s = spelled_injective y z (between_is_number MIN_ORDER MAX_ORDER y (omega arith) (omega arith) p) (between_is_number MIN_ORDER MAX_ORDER z (omega arith) (omega arith) q) s
 
+same_integers_order : (y z : ℤ) → IsIntegersOrder y → IsIntegersOrder z → spelled y ≡ spelled z → y ≡ z
+same_integers_order y z p q s = spelled_injective y z (between_is_number MIN_INTEGERS_ORDER MAX_ORDER y (omega arith) (omega arith) p) (between_is_number MIN_INTEGERS_ORDER MAX_ORDER z (omega arith) (omega arith) q) s
+
 same_side : (k l : ℕ) → IsSide k → IsSide l → spelled (pos k) ≡ spelled (pos l) → k ≡ l
 same_side k l p q s =
     let same : pos k ≡ pos l = spelled_injective (pos k) (pos l) (between_is_number MIN_SIDE MAX_SIDE (pos k) (omega arith) (omega arith) p) (between_is_number MIN_SIDE MAX_SIDE (pos l) (omega arith) (omega arith) q) s in
@@ -41,6 +44,13 @@ same_series ws k l d e y z p q =
     let kinds = same_kind k l (head words) in
     let degrees = same_degree d e p.through q.through (head (tail words)) in
     let orders = same_order y z p.order q.order (head (tail (tail words))) in
+    cc
+
+same_gv : (ws : List Word) (d e : ℕ) (y z : ℤ) → IsGv ws d y → IsGv ws e z → Gv d y ≡ Gv e z
+same_gv ws d e y z p q =
+    let words = tail (sym p.same ∙ q.same) in
+    let degrees = same_degree d e p.through q.through (head words) in
+    let orders = same_integers_order y z p.order q.order (head (tail words)) in
     cc
 
 same_generate : (ws : List Word) (k l : ℕ) → IsGenerate ws k → IsGenerate ws l → Generate k ≡ Generate l
@@ -62,6 +72,7 @@ names_of_words ws c d p q = same_name (name_of c) (name_of d) (head (sym (asks_w
 pub same_command : (ws : List Word) (c d : Command) → Asks ws c → Asks ws d → c ≡ d
 same_command ws Check Check p q = refl
 same_command ws (Series k d y) (Series l e z) p q = same_series ws k l d e y z p q
+same_command ws (Gv d y) (Gv e z) p q = same_gv ws d e y z p q
 same_command ws (Generate k) (Generate l) p q = same_generate ws k l p q
 same_command ws (Summary k d y) (Summary l e z) p q = same_summary ws k l d e y z p q
 same_command ws Check (Series k d n) p q = let names = names_of_words ws Check (Series k d n) p q in cc
@@ -76,3 +87,11 @@ same_command ws (Generate l) (Summary m e o) p q = let names = names_of_words ws
 same_command ws (Summary m e o) Check p q = let names = names_of_words ws (Summary m e o) Check p q in cc
 same_command ws (Summary m e o) (Series k d n) p q = let names = names_of_words ws (Summary m e o) (Series k d n) p q in cc
 same_command ws (Summary m e o) (Generate l) p q = let names = names_of_words ws (Summary m e o) (Generate l) p q in cc
+same_command ws (Gv a b) Check p q = let names = names_of_words ws (Gv a b) Check p q in cc
+same_command ws Check (Gv a b) p q = let names = names_of_words ws Check (Gv a b) p q in cc
+same_command ws (Gv a b) (Series k d n) p q = let names = names_of_words ws (Gv a b) (Series k d n) p q in cc
+same_command ws (Series k d n) (Gv a b) p q = let names = names_of_words ws (Series k d n) (Gv a b) p q in cc
+same_command ws (Gv a b) (Generate l) p q = let names = names_of_words ws (Gv a b) (Generate l) p q in cc
+same_command ws (Generate l) (Gv a b) p q = let names = names_of_words ws (Generate l) (Gv a b) p q in cc
+same_command ws (Gv a b) (Summary m e o) p q = let names = names_of_words ws (Gv a b) (Summary m e o) p q in cc
+same_command ws (Summary m e o) (Gv a b) p q = let names = names_of_words ws (Summary m e o) (Gv a b) p q in cc

@@ -6,11 +6,11 @@ use Rattle.tv_spec_text.specs.Places.{Begins, IsPlace}
 use Rattle.tv_text.specs.declared.series.Kind.{Kind}
 use Rattle.tv_text.specs.declared.series.Kind.TheVariants.{Full}
 use Rattle.tv_text.specs.Sections.{kind_word}
-use Rattle.tv_top.specs.Commands.{IsSide, IsDegree, IsOrder, IsSeries, IsGenerate, IsSummaryOf, IsCommand, Asks, name_word, series_words, generate_words, summary_words}
+use Rattle.tv_top.specs.Commands.{IsSide, IsDegree, IsOrder, IsIntegersOrder, IsSeries, IsGv, IsGenerate, IsSummaryOf, IsCommand, Asks, name_word, series_words, gv_words, generate_words, summary_words}
 use Rattle.tv_top.specs.declared.command.Name.{Name}
-use Rattle.tv_top.specs.declared.command.Name.TheVariants.{Check as CheckName, Series as SeriesName, Generate as GenerateName, Summary as SummaryName}
+use Rattle.tv_top.specs.declared.command.Name.TheVariants.{Check as CheckName, Series as SeriesName, Gv as GvName, Generate as GenerateName, Summary as SummaryName}
 use Rattle.tv_top.specs.declared.command.Command.{Command}
-use Rattle.tv_top.specs.declared.command.Command.TheVariants.{Check, Series, Generate, Summary}
+use Rattle.tv_top.specs.declared.command.Command.TheVariants.{Check, Series, Gv, Generate, Summary}
 
 -- The words in front begin a list of L, and those behind them go on with none.
 
@@ -40,6 +40,9 @@ zero_degree = (omega (arith, ints), omega (arith, ints))
 zero_order : IsOrder (pos 0)
 zero_order = (omega (arith, ints), omega (arith, ints))
 
+one_order : IsIntegersOrder (pos 1)
+one_order = (omega (arith, ints), omega (arith, ints))
+
 one_side : IsSide 1
 one_side = (omega (arith, ints), omega (arith, ints))
 
@@ -63,6 +66,7 @@ no_more e = cc
 pub same_name : (n m : Name) → name_word n ≡ name_word m → n ≡ m
 same_name CheckName CheckName e = refl
 same_name SeriesName SeriesName e = refl
+same_name GvName GvName e = refl
 same_name GenerateName GenerateName e = refl
 same_name SummaryName SummaryName e = refl
 same_name CheckName SeriesName e = absurd (let lengths = ap length e in omega arith)
@@ -78,9 +82,19 @@ same_name SummaryName CheckName e = absurd (let lengths = ap length e in omega a
 same_name SummaryName SeriesName e = absurd (let lengths = ap length e in omega arith)
 same_name SummaryName GenerateName e = absurd (let lengths = ap length e in omega arith)
 
+same_name GvName CheckName e = absurd (let lengths = ap length e in omega arith)
+same_name CheckName GvName e = absurd (let lengths = ap length e in omega arith)
+same_name GvName SeriesName e = absurd (let lengths = ap length e in omega arith)
+same_name SeriesName GvName e = absurd (let lengths = ap length e in omega arith)
+same_name GvName GenerateName e = absurd (let lengths = ap length e in omega arith)
+same_name GenerateName GvName e = absurd (let lengths = ap length e in omega arith)
+same_name GvName SummaryName e = absurd (let lengths = ap length e in omega arith)
+same_name SummaryName GvName e = absurd (let lengths = ap length e in omega arith)
+
 abbrev pub name_of : Command → Name
 name_of Check = CheckName
 name_of (Series kind d n) = SeriesName
+name_of (Gv d n) = GvName
 name_of (Generate k) = GenerateName
 name_of (Summary k d n) = SummaryName
 
@@ -88,12 +102,14 @@ name_of (Summary k d n) = SummaryName
 abbrev pub rest_of : Command → List Word
 rest_of Check = []
 rest_of (Series kind d n) = kind_word kind ∷ spelled (pos d) ∷ spelled n ∷ []
+rest_of (Gv d n) = spelled (pos d) ∷ spelled n ∷ []
 rest_of (Generate k) = spelled (pos k) ∷ []
 rest_of (Summary k d n) = spelled (pos k) ∷ spelled (pos d) ∷ spelled n ∷ []
 
 pub asks_words : (ws : List Word) (c : Command) → Asks ws c → ws ≡ name_word (name_of c) ∷ rest_of c
 asks_words ws Check h = h
 asks_words ws (Series kind d n) h = h.same
+asks_words ws (Gv d n) h = h.same
 asks_words ws (Generate k) h = h.same
 asks_words ws (Summary k d n) h = h.same
 
@@ -107,6 +123,7 @@ place_first xs h = here IsCommand xs (name_word CheckName ∷ [], (Check, refl))
 check_rest : (w : Word) (rest : List Word) (c : Command) → Asks (name_word CheckName ∷ w ∷ rest) c → ⊥
 check_rest w rest Check h = no_more (tail h)
 check_rest w rest (Series kind d n) h = absurd (let lengths = ap length (head h.same) in omega arith)
+check_rest w rest (Gv d n) h = absurd (let lengths = ap length (head h.same) in omega arith)
 check_rest w rest (Generate k) h = absurd (let lengths = ap length (head h.same) in omega arith)
 check_rest w rest (Summary k d n) h = absurd (let lengths = ap length (head h.same) in omega arith)
 
@@ -116,7 +133,7 @@ place_after_check xs some = behind IsCommand (name_word CheckName ∷ []) xs ([]
   short = λ e. absurd (some e);
 })
 
--- what follows `series`, `generate` and `summary` in a command
+-- what follows `series`, `gv`, `generate` and `summary` in a command
 record SeriesTail (ws : List Word) : Type 0 where
   kind : Kind
   degree : ℕ
@@ -124,6 +141,13 @@ record SeriesTail (ws : List Word) : Type 0 where
   through : IsDegree degree
   order : IsOrder upto
   same : ws ≡ kind_word kind ∷ spelled (pos degree) ∷ spelled upto ∷ []
+
+record GvTail (ws : List Word) : Type 0 where
+  degree : ℕ
+  upto : ℤ
+  through : IsDegree degree
+  order : IsIntegersOrder upto
+  same : ws ≡ spelled (pos degree) ∷ spelled upto ∷ []
 
 record GenerateTail (ws : List Word) : Type 0 where
   side : ℕ
@@ -145,18 +169,28 @@ other_name n m us vs differ e = absurd (differ (same_name n m (head e)))
 series_tail : (ws : List Word) (c : Command) → Asks (name_word SeriesName ∷ ws) c → SeriesTail ws
 series_tail ws Check h = other_name SeriesName CheckName _ _ (λ e. cc) h
 series_tail ws (Series k d n) h = record { kind = k; degree = d; upto = n; through = h.through; order = h.order; same = tail h.same }
+series_tail ws (Gv d n) h = other_name SeriesName GvName _ _ (λ e. cc) h.same
 series_tail ws (Generate k) h = other_name SeriesName GenerateName _ _ (λ e. cc) h.same
 series_tail ws (Summary k d n) h = other_name SeriesName SummaryName _ _ (λ e. cc) h.same
+
+gv_tail : (ws : List Word) (c : Command) → Asks (name_word GvName ∷ ws) c → GvTail ws
+gv_tail ws Check h = other_name GvName CheckName _ _ (λ e. cc) h
+gv_tail ws (Series k d n) h = other_name GvName SeriesName _ _ (λ e. cc) h.same
+gv_tail ws (Gv d n) h = record { degree = d; upto = n; through = h.through; order = h.order; same = tail h.same }
+gv_tail ws (Generate k) h = other_name GvName GenerateName _ _ (λ e. cc) h.same
+gv_tail ws (Summary k d n) h = other_name GvName SummaryName _ _ (λ e. cc) h.same
 
 generate_tail : (ws : List Word) (c : Command) → Asks (name_word GenerateName ∷ ws) c → GenerateTail ws
 generate_tail ws Check h = other_name GenerateName CheckName _ _ (λ e. cc) h
 generate_tail ws (Series k d n) h = other_name GenerateName SeriesName _ _ (λ e. cc) h.same
+generate_tail ws (Gv d n) h = other_name GenerateName GvName _ _ (λ e. cc) h.same
 generate_tail ws (Generate k) h = record { side = k; within = h.within; same = tail h.same }
 generate_tail ws (Summary k d n) h = other_name GenerateName SummaryName _ _ (λ e. cc) h.same
 
 summary_tail : (ws : List Word) (c : Command) → Asks (name_word SummaryName ∷ ws) c → SummaryTail ws
 summary_tail ws Check h = other_name SummaryName CheckName _ _ (λ e. cc) h
 summary_tail ws (Series k d n) h = other_name SummaryName SeriesName _ _ (λ e. cc) h.same
+summary_tail ws (Gv d n) h = other_name SummaryName GvName _ _ (λ e. cc) h.same
 summary_tail ws (Generate k) h = other_name SummaryName GenerateName _ _ (λ e. cc) h.same
 summary_tail ws (Summary k d n) h = record { side = k; degree = d; upto = n; within = h.within; through = h.through; order = h.order; same = tail h.same }
 
@@ -191,6 +225,29 @@ place_series_end xs rest kind d n g o e some = rw e (behind IsCommand (series_wo
 
 pub words_of_series : (xs rest : List Word) (kind : Kind) (d : ℕ) (n : ℤ) → IsDegree d → IsOrder n → xs ≡ kind_word kind ∷ spelled (pos d) ∷ spelled n ∷ rest → rest ≡ [] → IsSeries (name_word SeriesName ∷ xs) kind d n
 words_of_series xs rest kind d n g o e z = record { through = g; order = o; same = rw (e, z) refl }
+
+-- the places after `gv`
+
+gv_command : (d : ℕ) (n : ℤ) → IsDegree d → IsIntegersOrder n → IsCommand (gv_words d n)
+gv_command d n g h = (Gv d n, record { through = g; order = h; same = refl })
+
+pub place_gv_degree : (xs : List Word) → ((d : ℕ) (ws : List Word) → IsDegree d → xs ≢ spelled (pos d) ∷ ws) → IsPlace IsCommand (name_word GvName ∷ xs) 1
+place_gv_degree xs h = behind IsCommand (name_word GvName ∷ []) xs (nought ∷ spelled (pos 1) ∷ [], gv_command 0 (pos 1) zero_degree one_order) (record {
+  other = λ w ws rest e c. let t = gv_tail (w ∷ rest) c.0 c.1 in h t.degree ws t.through (e ∙ ap (λ v. v ∷ ws) (head t.same));
+  short = λ e c. let t = gv_tail [] c.0 c.1 in no_more (sym t.same);
+})
+
+pub place_gv_order : (xs rest : List Word) (d : ℕ) → IsDegree d → xs ≡ spelled (pos d) ∷ rest → ((z : ℤ) (ws : List Word) → IsIntegersOrder z → rest ≢ spelled z ∷ ws) → IsPlace IsCommand (name_word GvName ∷ xs) 2
+place_gv_order xs rest d g e h = rw e (behind IsCommand (name_word GvName ∷ spelled (pos d) ∷ []) rest (spelled (pos 1) ∷ [], gv_command d (pos 1) g one_order) (record {
+  other = λ w ws more e c. let t = gv_tail (spelled (pos d) ∷ w ∷ more) c.0 c.1 in h t.upto ws t.order (e ∙ ap (λ v. v ∷ ws) (head (tail t.same)));
+  short = λ e c. let t = gv_tail (spelled (pos d) ∷ []) c.0 c.1 in no_more (sym (tail t.same));
+}))
+
+pub place_gv_end : (xs rest : List Word) (d : ℕ) (n : ℤ) → IsDegree d → IsIntegersOrder n → xs ≡ spelled (pos d) ∷ spelled n ∷ rest → rest ≢ [] → IsPlace IsCommand (name_word GvName ∷ xs) 3
+place_gv_end xs rest d n g o e some = rw e (behind IsCommand (gv_words d n) rest ([], gv_command d n g o) (record {
+  other = λ w ws more e c. no_more (tail (tail (gv_tail (spelled (pos d) ∷ spelled n ∷ w ∷ more) c.0 c.1).same));
+  short = λ e. absurd (some e);
+}))
 
 -- the places after `generate`
 

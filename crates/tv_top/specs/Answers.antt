@@ -12,6 +12,8 @@
 -- DeservesFile ws io text  == the command is about a file, and the text names the first check that it fails, of which all bytes
 --                             were taken, or exactly MOST_BYTES + 1
 -- DeservesWide ws io text  == the text names a bound of the command's work on that web that passes 2^127 - 1
+-- DeservesDiffers ws io text == the text names the first place at which the product over the integers of the reduced series of
+--                             that web and these series differ, with both values
 -- DeservesRead ws io text  == the command is about a file, one read failed, and the text is that of a failed read
 -- Deserves ws io status text == the status and its text are deserved by these words and this source
 -- Told out text status result == a beginning of the text was appended to the sink, in at most a write for each byte: all of
@@ -36,11 +38,11 @@ use Rattle.tv_outside.specs.Writing.{GivesAll, GivesPart}
 use Rattle.tv_top.specs.Commands.{Asks, IsCommand, side_of}
 use Rattle.tv_top.specs.Acceptance.{IsAccepted}
 use Rattle.tv_top.specs.Rejections.{FaultOf}
-use Rattle.tv_top.specs.Reports.{IsReport, IsWide}
+use Rattle.tv_top.specs.Reports.{IsReport, IsWide, IsDiffers}
 use Rattle.tv_spec_plane.specs.declared.limits.TheConstants.{MOST_BYTES}
 use Rattle.tv_top.specs.declared.command.Command.{Command}
 use Rattle.tv_top.specs.declared.status.Status.{Status}
-use Rattle.tv_top.specs.declared.status.Status.TheVariants.{Done, Words, File, Wide, Memory, ReadFault, WriteFault}
+use Rattle.tv_top.specs.declared.status.Status.TheVariants.{Done, Words, File, Wide, Differs, Memory, ReadFault, WriteFault}
 
 pub record Change : Type 0 where
   pub before : Seen
@@ -96,6 +98,14 @@ pub record DeservesWide (ws : List Word) (io : Change) (text : List ℕ) : Type 
   pub wide : IsWide command web refusal
   pub line : text ≡ line_text refusal
 
+pub record DeservesDiffers (ws : List Word) (io : Change) (text : List ℕ) : Type 0 where
+  pub command : Command
+  pub web : Web
+  pub refusal : Line
+  pub on : IsOn ws io command web
+  pub differs : IsDiffers command web refusal
+  pub line : text ≡ line_text refusal
+
 pub record DeservesRead (ws : List Word) (io : Change) (text : List ℕ) : Type 0 where
   pub command : Command
   pub asked : Asks ws command
@@ -108,6 +118,7 @@ Deserves ws io Done text = DeservesDone ws io text
 Deserves ws io Words text = DeservesWords ws io text
 Deserves ws io File text = DeservesFile ws io text
 Deserves ws io Wide text = DeservesWide ws io text
+Deserves ws io Differs text = DeservesDiffers ws io text
 Deserves ws io Memory text = text ≡ memory_text
 Deserves ws io ReadFault text = DeservesRead ws io text
 Deserves ws io _ text = ⊥

@@ -3,14 +3,17 @@
 -- IsBetween low high z == a number from low to high
 -- IsDegree d     == a number from 0 to MAX_DEGREE
 -- IsOrder z      == a number from MIN_ORDER to MAX_ORDER
+-- IsIntegersOrder z == a number from MIN_INTEGERS_ORDER to MAX_ORDER
 -- IsSide k       == a number from MIN_SIDE to MAX_SIDE
 -- name_word n    == the first word of a command
 -- series_words k d n == the word `series`, the kind, a degree and an order
 -- generate_words k == the word `generate` and the side of a grid
+-- gv_words d n   == the word `gv`, a degree and an order
 -- summary_words k d n == the word `summary`, the side of a grid, a degree and an order
 -- IsSeries ws k d n  == the words of the series of a kind, in degrees through d, with exponents through n
 -- IsGenerate ws k == the words of the grid of that side
 -- IsSummaryOf ws k d n == the words of the summary of a grid in degrees through d, with exponents through n
+-- IsGv ws d n    == the words of the integers in degrees through d, with exponents through n
 -- Asks ws c      == the words ask for the command
 -- side_of c      == the side of the grid that the command is about; None where it is about the file
 -- IsAsked c      == some words ask for the command
@@ -21,11 +24,11 @@ use Rattle.tv_spec_text.specs.Lines.{Word, spelled}
 use Rattle.tv_spec_text.specs.Places.{IsPlace}
 use Rattle.tv_text.specs.declared.series.Kind.{Kind}
 use Rattle.tv_text.specs.Sections.{kind_word}
-use Rattle.tv_top.specs.declared.command.TheConstants.{MIN_SIDE, MAX_SIDE, MAX_DEGREE, MIN_ORDER, MAX_ORDER}
+use Rattle.tv_top.specs.declared.command.TheConstants.{MIN_SIDE, MAX_SIDE, MAX_DEGREE, MIN_ORDER, MIN_INTEGERS_ORDER, MAX_ORDER}
 use Rattle.tv_top.specs.declared.command.Command.{Command}
-use Rattle.tv_top.specs.declared.command.Command.TheVariants.{Check, Series, Generate, Summary}
+use Rattle.tv_top.specs.declared.command.Command.TheVariants.{Check, Series, Gv, Generate, Summary}
 use Rattle.tv_top.specs.declared.command.Name.{Name}
-use Rattle.tv_top.specs.declared.command.Name.TheVariants.{Check as CheckName, Series as SeriesName, Generate as GenerateName, Summary as SummaryName}
+use Rattle.tv_top.specs.declared.command.Name.TheVariants.{Check as CheckName, Series as SeriesName, Gv as GvName, Generate as GenerateName, Summary as SummaryName}
 use Rattle.tv_top.specs.declared.command.WordsError.{WordsError}
 use Rattle.tv_top.specs.declared.command.WordsError.TheVariants.{At}
 
@@ -38,17 +41,24 @@ IsDegree d = IsBetween (pos 0) MAX_DEGREE (pos d)
 abbrev pub IsOrder : ℤ → Type 0
 IsOrder z = IsBetween MIN_ORDER MAX_ORDER z
 
+abbrev pub IsIntegersOrder : ℤ → Type 0
+IsIntegersOrder z = IsBetween MIN_INTEGERS_ORDER MAX_ORDER z
+
 abbrev pub IsSide : ℕ → Type 0
 IsSide k = IsBetween MIN_SIDE MAX_SIDE (pos k)
 
 abbrev pub name_word : Name → Word
 name_word CheckName = codes "check"
 name_word SeriesName = codes "series"
+name_word GvName = codes "gv"
 name_word GenerateName = codes "generate"
 name_word SummaryName = codes "summary"
 
 abbrev pub series_words : Kind → ℕ → ℤ → List Word
 series_words kind degree upto = name_word SeriesName ∷ kind_word kind ∷ spelled (pos degree) ∷ spelled upto ∷ []
+
+abbrev pub gv_words : ℕ → ℤ → List Word
+gv_words degree upto = name_word GvName ∷ spelled (pos degree) ∷ spelled upto ∷ []
 
 abbrev pub generate_words : ℕ → List Word
 generate_words side = name_word GenerateName ∷ spelled (pos side) ∷ []
@@ -60,6 +70,11 @@ pub record IsSeries (ws : List Word) (kind : Kind) (degree : ℕ) (upto : ℤ) :
   pub through : IsDegree degree
   pub order : IsOrder upto
   pub same : ws ≡ series_words kind degree upto
+
+pub record IsGv (ws : List Word) (degree : ℕ) (upto : ℤ) : Type 0 where
+  pub through : IsDegree degree
+  pub order : IsIntegersOrder upto
+  pub same : ws ≡ gv_words degree upto
 
 pub record IsGenerate (ws : List Word) (side : ℕ) : Type 0 where
   pub within : IsSide side
@@ -74,12 +89,14 @@ pub record IsSummaryOf (ws : List Word) (side degree : ℕ) (upto : ℤ) : Type 
 abbrev pub Asks : List Word → Command → Type 0
 Asks ws Check = ws ≡ name_word CheckName ∷ []
 Asks ws (Series kind degree upto) = IsSeries ws kind degree upto
+Asks ws (Gv degree upto) = IsGv ws degree upto
 Asks ws (Generate side) = IsGenerate ws side
 Asks ws (Summary side degree upto) = IsSummaryOf ws side degree upto
 
 abbrev pub side_of : Command → Option ℕ
 side_of Check = None
 side_of (Series kind degree upto) = None
+side_of (Gv degree upto) = None
 side_of (Generate side) = Some side
 side_of (Summary side degree upto) = Some side
 

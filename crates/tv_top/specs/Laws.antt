@@ -20,7 +20,7 @@ use Rattle.tv_spec_series.specs.Reduced.{full_coefficient}
 use Rattle.tv_laws_edges.specs.Rule.{HasEdgeRule}
 use Rattle.tv_spec_partial.specs.Partial.{partial_chi, partial_sign}
 use Rattle.tv_spec_reports.specs.Grids.{grid, grid_text}
-use Rattle.tv_top.specs.declared.command.TheConstants.{MIN_SIDE, MAX_SIDE, MAX_DEGREE, MIN_ORDER, MAX_ORDER}
+use Rattle.tv_top.specs.declared.command.TheConstants.{MIN_SIDE, MAX_SIDE, MAX_DEGREE, MIN_ORDER, MIN_INTEGERS_ORDER, MAX_ORDER}
 use Rattle.tv_top.specs.Commands.{IsSide}
 use Rattle.tv_top.specs.Acceptance.{IsAccepted}
 use Rattle.tv_top.specs.Rejections.{FaultOf}
@@ -30,6 +30,7 @@ pub record WordsHaveLimits : Type 0 where
   pub greatest_side : MAX_SIDE ≡ pos 7
   pub greatest_degree : MAX_DEGREE ≡ pos 24
   pub least_order : MIN_ORDER ≡ neg_ℤ (pos 64)
+  pub least_integers_order : MIN_INTEGERS_ORDER ≡ pos 1
   pub greatest_order : MAX_ORDER ≡ pos 64
 
 abbrev pub AcceptedIsNotRefused : Type 0

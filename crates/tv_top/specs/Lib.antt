@@ -1,6 +1,7 @@
 pub mod Commands
 pub mod Acceptance
 pub mod SeriesReport
+pub mod Integers
 pub mod Reports
 pub mod Rejections
 pub mod Status

@@ -3,6 +3,8 @@
 -- Says r status line          == the answer has the status and the line; a failure is want of memory
 -- IsPrinted k f text          == the text is the report of the family f, of which each coefficient is small
 -- Prints k f r                == the answer is Done with that text; a failure is want of memory
+-- IsPrintedWith f k text       == the text is that of the sections of the family f with the integers k, which are its own
+-- PrintsIntegers f k r        == the answer is Done with that text; a failure is want of memory
 -- IsSummed k d n f text        == the text is the summary of the sections of the family f, as one of grid k
 -- Summarizes k d n f r        == the answer is Done with that text; a failure is want of memory
 -- CarriesOut c w status text  == the status and the text are deserved by the command over this web
@@ -20,17 +22,21 @@ use Rattle.tv_spec_text.specs.Reports.{series_text}
 use Rattle.tv_spec_series.specs.Families.{Family, IsFamily}
 use Rattle.tv_text.specs.declared.series.Kind.{Kind}
 use Rattle.tv_text.specs.Sections.{kind_word}
+use Rattle.tv_integers.specs.Kept.{Kept}
+use Rattle.tv_gv.specs.Extracted.{HasIntegers}
 use Rattle.tv_reports.specs.Sections.{IsSmall, sections_of}
+use Rattle.tv_reports.specs.IntegerSections.{gv_sections}
+use Rattle.tv_spec_reports.specs.IntegerLines.{gv_text}
 use Rattle.tv_lattice.specs.declared.fault.FileFault.{FileFault}
 use Rattle.tv_spec_reports.specs.Summaries.{Summary, IsSummary, summary_text}
 use Rattle.tv_text.specs.Refusals.{fault_line}
 use Rattle.tv_top.specs.Acceptance.{IsAccepted}
-use Rattle.tv_top.specs.Reports.{IsReport, IsWide}
+use Rattle.tv_top.specs.Reports.{IsReport, IsWide, IsDiffers}
 use Rattle.tv_top.specs.Rejections.{FaultOf}
 use Rattle.tv_top.specs.Answers.{Change, Deserves, DeservesRead, read_text}
 use Rattle.tv_top.specs.declared.command.Command.{Command}
 use Rattle.tv_top.specs.declared.status.Status.{Status}
-use Rattle.tv_top.specs.declared.status.Status.TheVariants.{Done, File, Wide}
+use Rattle.tv_top.specs.declared.status.Status.TheVariants.{Done, File, Wide, Differs}
 use Rattle.tv_top.specs.declared.answer.Answer.{Answer}
 use Rattle.tv_top.specs.declared.answer.Failure.{Failure}
 use Rattle.tv_top.specs.declared.answer.Failure.TheVariants.{Memory, Read}
@@ -46,6 +52,14 @@ pub record IsPrinted (kind : Kind) (f : Family ℤ) (text : List ℕ) : Type 0 w
 abbrev pub Prints : Kind → Family ℤ → Result Answer Failure → Type 0
 Prints kind f r = MatchResult r (λ a. (a.status ≡ Done) × IsPrinted kind f a.text.items) (λ e. e ≡ Memory)
 
+pub record IsPrintedWith (f : Family ℤ) (k : Kept) (text : List ℕ) : Type 0 where
+  pub family : IsFamily IsAny wholes f
+  pub integers : HasIntegers f k
+  pub same : text ≡ gv_text f.heights f.top f.upto (gv_sections f k.integers)
+
+abbrev pub PrintsIntegers : Family ℤ → Kept → Result Answer Failure → Type 0
+PrintsIntegers f k r = MatchResult r (λ a. (a.status ≡ Done) × IsPrintedWith f k a.text.items) (λ e. e ≡ Memory)
+
 pub record IsSummed (side degree : ℕ) (upto : ℤ) (f : Family ℤ) (text : List ℕ) : Type 0 where
   pub family : IsFamily IsAny wholes f
   pub summary : Summary
@@ -58,6 +72,7 @@ Summarizes side degree upto f r = MatchResult r (λ a. (a.status ≡ Done) × Is
 abbrev pub CarriesOut : Command → Web → Status → List ℕ → Type 0
 CarriesOut c w Done text = IsReport c w text
 CarriesOut c w Wide text = (line : Line) × IsWide c w line × (text ≡ line_text line)
+CarriesOut c w Differs text = (line : Line) × IsDiffers c w line × (text ≡ line_text line)
 CarriesOut c w _ text = ⊥
 
 abbrev pub IsCarriedOut : Command → Web → Result Answer Failure → Type 0

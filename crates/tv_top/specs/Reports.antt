@@ -5,9 +5,15 @@
 --                            large
 -- IsSeriesWide k w d n line == a bound of the work on the series of that kind passes 2^127 - 1, and the line names where. The
 --                            bounds are this project's own: one may pass it though each coefficient is small
+-- IsMajorantLine w d n line == the line names a class and an exponent at which the majorant is too large
+-- IsIntegersWide w d n line == a bound of the work on the reduced series or on their integers passes 2^127 - 1, and the line
+--                            names where
+-- IsDifferenceLine w d n line == the line names the first place at which Katz's product over the integers of the reduced series
+--                            and these series differ, with both values
 -- IsReport c w text == the text is the command's report of the web; that of a grid is told by its side alone, and `IsOver` says
 --                     that the web is that grid
 -- IsWide c w line   == a bound of the command's work passes 2^127 - 1, and the line names some place where it does
+-- IsDiffers c w line == what the command compares differs, and the line names the first place where it does
 use Rattle.std.specs.Prelude.{◌≡◌, ◌⊎◌, ℕ, ℤ, List}
 use Rattle.tv_spec_plane.specs.Web.{Web}
 use Rattle.tv_spec_text.specs.Lines.{Line}
@@ -16,10 +22,12 @@ use Rattle.tv_text.specs.declared.series.Kind.{Kind}
 use Rattle.tv_text.specs.declared.series.Kind.TheVariants.{Full, Reduced}
 use Rattle.tv_spec_reports.specs.Grids.{grid_text}
 use Rattle.tv_spec_reports.specs.SummaryReport.{IsSummaryReport}
-use Rattle.tv_text.specs.Refusals.{crowd_line, spread_line}
+use Rattle.tv_text.specs.Refusals.{crowd_line, spread_line, majorant_line, differs_line}
+use Rattle.tv_spec_reports.specs.IntegersReport.{IsIntegersReport}
 use Rattle.tv_top.specs.SeriesReport.{IsSeriesReport, IsCrowded, IsSpreadOut}
+use Rattle.tv_top.specs.Integers.{IsMajorantBeyond, IsFirstDifference}
 use Rattle.tv_top.specs.declared.command.Command.{Command}
-use Rattle.tv_top.specs.declared.command.Command.TheVariants.{Check, Series, Generate, Summary}
+use Rattle.tv_top.specs.declared.command.Command.TheVariants.{Check, Series, Gv, Generate, Summary}
 
 abbrev pub IsCrowdLine : Web → ℕ → ℤ → Line → Type 0
 IsCrowdLine w degree upto line = (v : List ℤ) × IsCrowded w degree upto v × (line ≡ crowd_line v)
@@ -31,14 +39,34 @@ abbrev pub IsSeriesWide : Kind → Web → ℕ → ℤ → Line → Type 0
 IsSeriesWide Full w degree upto line = IsCrowdLine w degree upto line
 IsSeriesWide Reduced w degree upto line = IsCrowdLine w degree upto line ⊎ IsSpreadLine w degree upto line
 
+abbrev pub IsMajorantLine : Web → ℕ → ℤ → Line → Type 0
+IsMajorantLine w d upto line = (v : List ℤ) × ((m : ℤ) × IsMajorantBeyond w d upto v m × (line ≡ majorant_line m v))
+
+abbrev pub IsIntegersWide : Web → ℕ → ℤ → Line → Type 0
+IsIntegersWide w d upto line = IsSeriesWide Reduced w d upto line ⊎ IsMajorantLine w d upto line
+
+pub record IsDifferenceLine (w : Web) (d : ℕ) (upto : ℤ) (line : Line) : Type 0 where
+  pub class : List ℤ
+  pub exponent : ℤ
+  pub series : ℤ
+  pub product : ℤ
+  pub first : IsFirstDifference w d upto class exponent series product
+  pub same : line ≡ differs_line exponent series product class
+
 abbrev pub IsReport : Command → Web → List ℕ → Type 0
 IsReport Check w text = text ≡ check_text w
 IsReport (Series kind degree upto) w text = IsSeriesReport kind w degree upto text
+IsReport (Gv degree upto) w text = IsIntegersReport w degree upto text
 IsReport (Generate side) w text = text ≡ grid_text side
 IsReport (Summary side degree upto) w text = IsSummaryReport side degree upto text
 
 abbrev pub IsWide : Command → Web → Line → Type 0
 IsWide Check w line = ⊥
 IsWide (Series kind degree upto) w line = IsSeriesWide kind w degree upto line
+IsWide (Gv degree upto) w line = IsIntegersWide w degree upto line
 IsWide (Generate side) w line = ⊥
 IsWide (Summary side degree upto) w line = IsCrowdLine w degree upto line
+
+abbrev pub IsDiffers : Command → Web → Line → Type 0
+IsDiffers (Gv degree upto) w line = IsDifferenceLine w degree upto line
+IsDiffers _ w line = ⊥

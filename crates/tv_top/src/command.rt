@@ -21,6 +21,9 @@ pub const MAX_DEGREE: i64 = 24;
 /// The least order that words may ask for.
 pub const MIN_ORDER: i64 = -64;
 
+/// The least order that words may ask for with integers.
+pub const MIN_INTEGERS_ORDER: i64 = 1;
+
 /// The greatest order that words may ask for.
 pub const MAX_ORDER: i64 = 64;
 
@@ -31,6 +34,8 @@ pub enum Command {
     Check,
     /// The series of that kind in degrees through `degree` (0 to 24), with exponents through `upto` (-64 to 64).
     Series { kind: Kind, degree: u32, upto: i64 },
+    /// The reduced series and their integers in degrees through `degree` (0 to 24), with exponents through `upto` (1 to 64).
+    Gv { degree: u32, upto: i64 },
     /// The file of the grid with `side` (1 to 7) unit squares along a side.
     Generate { side: u32 },
     /// What the report of that grid's full series, in degrees through `degree` (0 to 24) and with exponents through `upto` (-64 to
@@ -45,6 +50,8 @@ pub(crate) enum Name {
     Check,
     /// `series`
     Series,
+    /// `gv`
+    Gv,
     /// `generate`
     Generate,
     /// `summary`
@@ -70,6 +77,7 @@ pub fn parse_words(words: &[String]) -> Result<Command, WordsError>
     match name {
         Name::Check => check(rest),
         Name::Series => series(rest),
+        Name::Gv => gv(rest),
         Name::Generate => generate(rest),
         Name::Summary => summary(rest),
     }
@@ -102,6 +110,22 @@ fn series(rest: &[String]) -> Result<Command, WordsError>
         return Err(WordsError::At(4));
     }
     Ok(Command::Series { kind, degree, upto })
+}
+
+// The command of the word `gv` and what follows it.
+fn gv(rest: &[String]) -> Result<Command, WordsError>
+    ensures { let words = name_word Name.Gv ∷ map string_bytes rest.now in MatchResult result (Asks words) (IsWordsError words) }
+{
+    let Some((degree, orders)) = after_degree(rest) else {
+        return Err(WordsError::At(1));
+    };
+    let Some((upto, rest)) = after_number(orders, MIN_INTEGERS_ORDER, MAX_ORDER) else {
+        return Err(WordsError::At(2));
+    };
+    if !rest.is_empty() {
+        return Err(WordsError::At(3));
+    }
+    Ok(Command::Gv { degree, upto })
 }
 
 // The command of the word `generate` and what follows it.
@@ -147,6 +171,9 @@ fn after_name<'a>(words: &'a [String]) -> Option<(Name, &'a [String])>
     }
     if let Some(rest) = after_word(words, "series") {
         return Some((Name::Series, rest));
+    }
+    if let Some(rest) = after_word(words, "gv") {
+        return Some((Name::Gv, rest));
     }
     if let Some(rest) = after_word(words, "generate") {
         return Some((Name::Generate, rest));

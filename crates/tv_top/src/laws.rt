@@ -3,7 +3,8 @@
 
 ghost use Rattle.tv_top.specs.Laws.{WordsHaveLimits, GridIsAccepted, AcceptedIsNotRefused, AcceptedAsOneWeb, AcceptedHasEdgeRule, AcceptedConfigurationSign, AcceptedPartialSign, AcceptedNoneCancels, AcceptedSizeIsNumber};
 
-/// What words may ask for: sides from 1 to 7, degrees from 0 to 24, orders from -64 to 64.
+/// What words may ask for: sides from 1 to 7, degrees from 0 to 24, orders from -64 to 64, with
+/// integers from 1 to 64.
 pub fn words_have_limits()
     ensures { WordsHaveLimits }
 {}

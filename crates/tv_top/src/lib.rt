@@ -7,6 +7,7 @@ mod answer;
 mod check;
 mod command;
 mod grids;
+mod gv;
 pub mod laws;
 mod reply;
 mod running;
@@ -18,7 +19,8 @@ mod tests;
 
 pub use acceptance::accept;
 pub use command::{
-    Command, MAX_DEGREE, MAX_ORDER, MAX_SIDE, MIN_ORDER, MIN_SIDE, WordsError, parse_words,
+    Command, MAX_DEGREE, MAX_ORDER, MAX_SIDE, MIN_INTEGERS_ORDER, MIN_ORDER, MIN_SIDE, WordsError,
+    parse_words,
 };
 pub use running::run;
 pub use status::Status;

@@ -10,6 +10,7 @@ use crate::answer::{Answer, Failure, refuse, reject};
 use crate::check::check_answer;
 use crate::command::{Command, WordsError, parse_words};
 use crate::grids::{generate_answer, summary_answer};
+use crate::gv::gv_answer;
 use crate::series::series_answer;
 use crate::status::Status;
 use std::alloc::Global;
@@ -47,6 +48,7 @@ fn answer_to<S: Source>(alloc: Global, command: Command, source: &mut S) -> Resu
     match command {
         Command::Check => over_source(alloc, command, source),
         Command::Series { .. } => over_source(alloc, command, source),
+        Command::Gv { .. } => over_source(alloc, command, source),
         Command::Generate { side } => generate_answer(alloc, side),
         Command::Summary { side, degree, upto } => summary_answer(alloc, side, degree, upto),
     }
@@ -93,6 +95,7 @@ fn carry_out(alloc: Global, web: &GradedWeb, command: Command) -> Result<Answer,
     match command {
         Command::Check => check_answer(alloc, web),
         Command::Series { kind, degree, upto } => series_answer(alloc, web, kind, degree, upto),
+        Command::Gv { degree, upto } => gv_answer(alloc, web, degree, upto),
         Command::Generate { .. } => unreachable!(),
         Command::Summary { .. } => unreachable!(),
     }

@@ -89,7 +89,8 @@ pub(crate) fn too_crowded(alloc: Global, class: Class) -> Result<Answer, Failure
     )
 }
 
-fn spread_out(alloc: Global, class: Class, exponent: i64) -> Result<Answer, Failure>
+/// The refusal of a class and an exponent at which the numbers that meet in the division are too large.
+pub(crate) fn spread_out(alloc: Global, class: Class, exponent: i64) -> Result<Answer, Failure>
     ensures { Says result Status.Wide (spread_line exponent class) }
 {
     refuse(

@@ -14,7 +14,7 @@ pub enum Status {
     File,
     /// A number that the command needs exceeds 2^127 - 1.
     Wide,
-    /// A report differs from what it reports on. No command answers it.
+    /// A series and the product over its integers differ.
     Differs,
     /// Memory was wanting.
     Memory,
