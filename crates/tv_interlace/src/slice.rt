@@ -7,8 +7,10 @@ ghost use Rattle.std.specs.Cmp.Rules.{comparing, hashing};
 ghost use Rattle.std.specs.Hash as fed;
 ghost use Rattle.tv_spec_slices.specs.Slices.{Shape, at, reach};
 ghost use Rattle.tv_spec_slices.specs.Paths.{shape};
+ghost use Rattle.tv_interlace.specs.Same.{same};
 
-use std::alloc::{AllocError, Global};
+use std::alloc::AllocError;
+use std::hash::{Hash, Hasher};
 use std::marker::Model;
 
 /// The number of places at its front whose column has no end, and the heights of the further columns. It has fewer than 2^31
@@ -25,6 +27,42 @@ impl Model for Slice {
     ghost view = { λ s. shape s.full s.heights.items };
 
     ghost invariant = { λ s. s.full + length s.heights.items < 2 ^ 31 };
+}
+
+impl PartialEq for Slice {
+    ghost eq = { same };
+
+    ghost laws = { Prim.search (comparing, rules) };
+
+    fn eq(&self, other: &Slice) -> bool {
+        self.full() == other.full() && self.heights() == other.heights()
+    }
+}
+
+impl Eq for Slice {
+    ghost laws = { Prim.search (comparing, rules) };
+}
+
+impl Hash for Slice {
+    ghost hash_input = { λ s. fed.slice fed.u32 s.heights };
+
+    ghost respects_eq = { Prim.search (hashing, rules) };
+
+    fn hash<H: Hasher>(&self, state: &mut H) {
+        self.heights().hash(state);
+    }
+}
+
+impl Clone for Slice {
+    ghost is_clone = { λ s copy. copy ≡ s };
+
+    fn clone(&self) -> Result<Slice, AllocError> {
+        let heights = self.heights().to_vec(*self.heights.allocator())?;
+        Ok(Slice {
+            full: self.full,
+            heights,
+        })
+    }
 }
 
 impl Slice {
