@@ -1,0 +1,4 @@
+pub mod Numbers
+pub mod Put
+pub mod Neighbours
+pub mod Levels

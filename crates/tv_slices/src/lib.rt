@@ -1,0 +1,6 @@
+//! The sets of extras of a corner, counted by slices: a table of the slices of a diagonal, each with the ways up to it by
+//! their cost, pushed from one diagonal to the next. It lists no boxes.
+#![tactic(auto)]
+
+mod row;
+mod table;
