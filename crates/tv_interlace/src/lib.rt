@@ -4,7 +4,7 @@
 
 mod bounds;
 pub mod completion;
-mod diagonal;
+pub mod diagonal;
 pub mod interlacing;
 pub mod next;
 pub mod slice;

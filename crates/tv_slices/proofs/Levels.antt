@@ -117,7 +117,7 @@ same-sum F xs [] all distinct = omega arith
 same-sum {V} F xs (e ∷ rows) all distinct =
     let rest = same-sum F xs rows all.1 distinct.1 in
     let parts = sum_of-same (λ a. cond (is_some (lookup (same a) rows)) 0 (F a)) (λ a. cond (same_shape e.0 a) (F a) 0 + cond (is_some (lookup (same a) (e ∷ rows))) 0 (F a)) (λ a. part a (same a e.0) refl) xs
-        ∙ sym (sum_of-add (λ a. cond (same_shape e.0 a) (F a) 0) (λ a. cond (is_some (lookup (same a) (e ∷ rows))) 0 (F a)) xs) in
+    ∙ sym (sum_of-add (λ a. cond (same_shape e.0 a) (F a) 0) (λ a. cond (is_some (lookup (same a) (e ∷ rows))) 0 (F a)) xs) in
     let here = single e.0 F xs true all.0 in
     sums (sum_of F xs) (F e.0) (sum_of (λ e. F e.0) rows) _ _ _ rest parts here
   where

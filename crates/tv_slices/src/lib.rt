@@ -2,5 +2,9 @@
 //! their cost, pushed from one diagonal to the next. It lists no boxes.
 #![tactic(auto)]
 
-mod row;
-mod table;
+pub mod bare;
+mod counts;
+pub mod row;
+pub mod table;
+
+pub use counts::slice_counts;

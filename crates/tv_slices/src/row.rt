@@ -36,13 +36,7 @@ pub fn added<C: Ring>(
     Ok(all)
 }
 
-fn sum_at<C: Ring>(
-    alloc: Global,
-    before: &[C],
-    more: &[C],
-    x: u32,
-    e: u32,
-) -> Result<C, RingFault>
+fn sum_at<C: Ring>(alloc: Global, before: &[C], more: &[C], x: u32, e: u32) -> Result<C, RingFault>
     ensures value { IfOk result (λ s. s ≡ sums C.ring before.now more.now x e) }
     ensures wide { IsErrOf result RingFault.Wide → limit < C.ring.size (at C.ring before.now e) + C.ring.size (shifted C.ring more.now x e) }
 {
@@ -62,7 +56,7 @@ fn shifted_at<C: Ring>(alloc: Global, more: &[C], x: u32, e: u32) -> Result<C, R
     }
 }
 
-fn copy_at<C: Ring>(alloc: Global, xs: &[C], e: u32) -> Result<C, RingFault>
+pub fn copy_at<C: Ring>(alloc: Global, xs: &[C], e: u32) -> Result<C, RingFault>
     ensures value { IfOk result (λ s. s ≡ at C.ring xs.now e) }
     ensures never_wide { IsOkUnless result RingFault.Memory }
 {

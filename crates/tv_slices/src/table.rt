@@ -47,7 +47,7 @@ fn push_one<C: Ring>(
 }
 
 /// How many costs of a slice are kept.
-fn known(b: &Slice, legs: &Legs, k: u32, t: i32) -> u32
+pub fn known(b: &Slice, legs: &Legs, k: u32, t: i32) -> u32
     requires diagonal { unsigned_abs t ≤ 2 ^ 30 }
     requires few { k < 2 ^ 29 }
     ensures value { result ≡ known legs.now k t b.now }
@@ -75,12 +75,24 @@ fn joined<C: Ring>(
 {
     match old {
         Some(before) => {
-            let counts = added(alloc, before.counts.as_slice(), row.counts.as_slice(), x, len)?;
-            Ok(Row { least: before.least.min(row.least + x), counts })
+            let counts = added(
+                alloc,
+                before.counts.as_slice(),
+                row.counts.as_slice(),
+                x,
+                len,
+            )?;
+            Ok(Row {
+                least: before.least.min(row.least + x),
+                counts,
+            })
         }
         None => {
             let counts = added(alloc, &[], row.counts.as_slice(), x, len)?;
-            Ok(Row { least: row.least + x, counts })
+            Ok(Row {
+                least: row.least + x,
+                counts,
+            })
         }
     }
 }

@@ -50,12 +50,12 @@ loop-i-preserved g c =
     let before = subst B (to_z-of_z w32 t c.ranges.t) c.loop-i.invariant in
     subst T (sym (to_z-of_z w32 t c.ranges.t)) (elim c.match-get_index.branch [
       | in-Some+in_ok-push_slice w ↦
-        let e = sym w.in-Some.ensures.entry in
-        let fit = suits-of r legs k t are es c.requires.table c.loop-i.i w.in-Some.a.now w.in-Some.row.now e in
-        let has = row-of r legs k t are es c.requires.table w.in-Some.a.now w.in-Some.row.now w.in-Some.ensures.value fit in
-        let one = simp to_z-of_z at w.in_ok-push_slice.ensures.table in
-        let done = shares-next r legs k t are es c.loop-i.i w.in-Some.a.now w.in-Some.row.now w.push_slice.new.next.entries e has (one (shares legs k t (take c.loop-i.i es)) before) in
-        subst (λ m. IsTable r legs k (t +ℤ pos 1) (shares legs k t (take (c.loop-i.i + 1) es)) m.entries) (sym w.next-is) done
+          let e = sym w.in-Some.ensures.entry in
+          let fit = suits-of r legs k t are es c.requires.table c.loop-i.i w.in-Some.a.now w.in-Some.row.now e in
+          let has = row-of r legs k t are es c.requires.table w.in-Some.a.now w.in-Some.row.now w.in-Some.ensures.value fit in
+          let one = simp to_z-of_z at w.in_ok-push_slice.ensures.table in
+          let done = shares-next r legs k t are es c.loop-i.i w.in-Some.a.now w.in-Some.row.now w.push_slice.new.next.entries e has (one (shares legs k t (take c.loop-i.i es)) before) in
+          subst (λ m. IsTable r legs k (t +ℤ pos 1) (shares legs k t (take (c.loop-i.i + 1) es)) m.entries) (sym w.next-is) done
       | in_default w ↦ absurd (let off : false ≡ true = w.in_default.ensures.found.1 (omega arith) in cc)
     ])
 

@@ -12,7 +12,7 @@ use Rattle.tv_slices.proofs.table.push_slice.Goals as goal
 pub loop-b-init : goal.loop-b-init
 loop-b-init g c =
     let T : ℤ → Type 0 = λ t. (h : Shape → ℕ → ℕ) → IsTable g.C.Ring.ring c.args.legs.now c.args.k (t +ℤ pos 1) h c.args.next.now.entries →
-        IsTable g.C.Ring.ring c.args.legs.now c.args.k (t +ℤ pos 1) (partly c.args.legs.now (t +ℤ pos 1) (ways_at c.args.legs.now c.args.k t c.args.a.now) (take 0 c.deref-b-items.result.now) h) c.args.next.now.entries in
+    IsTable g.C.Ring.ring c.args.legs.now c.args.k (t +ℤ pos 1) (partly c.args.legs.now (t +ℤ pos 1) (ways_at c.args.legs.now c.args.k t c.args.a.now) (take 0 c.deref-b-items.result.now) h) c.args.next.now.entries in
     subst T (sym (to_z-of_z w32 c.args.t c.ranges.t))
     (λ h table. partly-start g.C.Ring.ring c.args.legs.now c.args.k c.args.t (c.args.t +ℤ pos 1) (ways_at c.args.legs.now c.args.k c.args.t c.args.a.now) h c.deref-b-items.result.now c.args.next.now.entries table)
 
