@@ -5,11 +5,11 @@ ghost use Rattle.tv_ring.specs.Operations.{limit};
 ghost use Rattle.tv_cells.specs.Extras.{count};
 ghost use Rattle.tv_vertex.specs.Corners.{corner_terms};
 
-use crate::listing::extras_times;
 use std::alloc::Global;
 use tv_cells::legs::Legs;
 use tv_laurent::Series;
 use tv_ring::{Ring, RingFault};
+use tv_slices::slice_counts;
 
 /// The series from exponent 0, known through `k`: the coefficient at i is the number of sets of i boxes beside the legs,
 /// times one (Okounkov, Reshetikhin and Vafa: the topological vertex as a count of boxes, without its sign).
@@ -20,9 +20,6 @@ pub fn corner_series<C: Ring>(alloc: Global, legs: &Legs, k: u32) -> Result<Seri
     // Wide only where one of these numbers, times the size of one, exceeds the limit.
     ensures wide { IsErrOf result RingFault.Wide → (i : ℕ) × (i ≤ k) × (limit < count legs.now i * C.ring.size C.ring.unit) }
 {
-    let mut coefficients = Vec::new(alloc);
-    for i in 0..k + 1 {
-        coefficients.push(extras_times(alloc, legs, i)?)?;
-    }
-    Ok(Series::new(0, coefficients))
+    let counts = slice_counts(alloc, legs, k)?;
+    Ok(Series::new(0, counts))
 }

@@ -1,0 +1,6 @@
+pub mod Sums
+pub mod Tested
+pub mod Bounded
+pub mod Beside
+pub mod Fitted
+pub mod Up

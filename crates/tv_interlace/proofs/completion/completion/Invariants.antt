@@ -1,0 +1,11 @@
+use Rattle.std.proofs.Common.{◌≡◌, ◌+◌, ◌-◌, ◌*◌, ◌≤◌}
+use Rattle.std.specs.List.{range_with_len}
+use Rattle.tv_lemmas.specs.Sums.{sum_of}
+use Rattle.tv_spec_slices.specs.Slices.{above}
+use Rattle.tv_interlace.proofs.completion.completion.Given as goal
+
+abbrev pub invariant-loop-d : goal.invariant-loop-d
+invariant-loop-d l = record {
+  sum : l.total + sum_of (above l.legs l.t l.a) (range_with_len l.d (l.d-end - l.d)) ≡ sum_of (above l.legs l.t l.a) (range_with_len 0 l.d-end);
+  bound : l.total ≤ 18446744073709551615 * l.d;
+}

@@ -1,0 +1,4 @@
+pub mod Places
+pub mod Bounds
+pub mod Columns
+pub mod Same

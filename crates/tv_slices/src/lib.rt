@@ -1,0 +1,10 @@
+//! The sets of extras of a corner, counted by slices: a table of the slices of a diagonal, each with the ways up to it by
+//! their cost, pushed from one diagonal to the next. It lists no boxes.
+#![tactic(auto)]
+
+pub mod bare;
+mod counts;
+pub mod row;
+pub mod table;
+
+pub use counts::slice_counts;

@@ -1,0 +1,67 @@
+//! The numbers of ways up to one slice, by their cost, times one: how they are read and added. It knows no slice.
+
+ghost use Rattle.std.specs.Prelude.{◌≡◌, ℕ, ◌+◌, ◌<◌, ◌≤◌, IfOk, IsErrOf, IsOkUnless};
+ghost use Rattle.tv_ring.specs.Operations.{limit};
+ghost use Rattle.tv_ring.specs.Sums.{at};
+ghost use Rattle.tv_laws_series.specs.Terms.{listed};
+ghost use Rattle.tv_slices.specs.Rows.{shifted, sums};
+
+use std::alloc::Global;
+use tv_ring::{Ring, RingFault};
+
+/// A cost below which there are no ways, and the numbers of ways of the costs from 0 on.
+#[derive(Drop)]
+pub struct Row<C> {
+    pub least: u32,
+    pub counts: Vec<C>,
+}
+
+/// The numbers of ways of the first `len` costs: those before, and as many more that cost x more.
+pub fn added<C: Ring>(
+    alloc: Global,
+    before: &[C],
+    more: &[C],
+    x: u32,
+    len: u32,
+) -> Result<Vec<C>, RingFault>
+    ensures value { IfOk result (λ v. v.items ≡ listed (sums C.ring before.now more.now x) len) }
+
+    // Wide only where the sum at one of these costs is too great.
+    ensures wide { IsErrOf result RingFault.Wide → (e : ℕ) × (e < len) × (limit < C.ring.size (at C.ring before.now e) + C.ring.size (shifted C.ring more.now x e)) }
+{
+    let mut all = Vec::new(alloc);
+    for e in 0..len {
+        all.push(sum_at(alloc, before, more, x, e)?)?;
+    }
+    Ok(all)
+}
+
+fn sum_at<C: Ring>(alloc: Global, before: &[C], more: &[C], x: u32, e: u32) -> Result<C, RingFault>
+    ensures value { IfOk result (λ s. s ≡ sums C.ring before.now more.now x e) }
+    ensures wide { IsErrOf result RingFault.Wide → limit < C.ring.size (at C.ring before.now e) + C.ring.size (shifted C.ring more.now x e) }
+{
+    let first = copy_at(alloc, before, e)?;
+    let second = shifted_at(alloc, more, x, e)?;
+    first.add(&second)
+}
+
+fn shifted_at<C: Ring>(alloc: Global, more: &[C], x: u32, e: u32) -> Result<C, RingFault>
+    ensures value { IfOk result (λ s. s ≡ shifted C.ring more.now x e) }
+    ensures never_wide { IsOkUnless result RingFault.Memory }
+{
+    if e < x {
+        C::zero(alloc)
+    } else {
+        copy_at(alloc, more, e - x)
+    }
+}
+
+pub fn copy_at<C: Ring>(alloc: Global, xs: &[C], e: u32) -> Result<C, RingFault>
+    ensures value { IfOk result (λ s. s ≡ at C.ring xs.now e) }
+    ensures never_wide { IsOkUnless result RingFault.Memory }
+{
+    match xs.get(e as usize) {
+        Some(count) => count.copy(),
+        None => C::zero(alloc),
+    }
+}
