@@ -1,0 +1,6 @@
+//! The sets of extras beside the legs of a corner, one at a time and in order, and the fillings of several corners. It holds
+//! one set, and no list of them.
+#![tactic(auto)]
+
+pub mod search;
+
