@@ -1,2 +1,5 @@
 pub mod Ahead
 pub mod Steps
+pub mod Room
+pub mod WorthSets
+pub mod Writing

@@ -3,4 +3,5 @@
 #![tactic(auto)]
 
 pub mod search;
-
+pub mod sets;
+pub mod worth;

@@ -60,6 +60,13 @@ impl Search {
         self.chosen.as_slice()
     }
 
+    /// A copy of the chosen cells.
+    pub fn copy(&self) -> Result<Vec<Cell>, AllocError>
+        ensures { IfOk result (λ set. set.items ≡ self.now.chosen.items) }
+    {
+        self.chosen.to_vec(*self.chosen.allocator())
+    }
+
     /// Goes on to the next set, which then is that of the chosen cells, or tells that no more come.
     pub fn find(&mut self) -> Result<bool, AllocError>
         requires { IsSearch self.old }
