@@ -3,3 +3,4 @@ pub mod Steps
 pub mod Room
 pub mod WorthSets
 pub mod Writing
+pub mod Sizes

@@ -1,3 +1,4 @@
 pub mod Search
 pub mod Room
+pub mod Sized
 pub use Rattle.tv_spec_boxes.specs.Configurations

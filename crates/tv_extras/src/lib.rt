@@ -4,4 +4,7 @@
 
 pub mod search;
 pub mod sets;
+pub mod sized;
 pub mod worth;
+#[cfg(test)]
+mod tests;

@@ -53,6 +53,22 @@ impl Search {
         }
     }
 
+    /// Begins again, with the sets of `size` of the same cells.
+    pub fn restart(&mut self, size: u32)
+        requires valid { IsSearch self.old }
+        requires few { size ≤ MOST_BOXES }
+        ensures valid { IsSearch self.new }
+        ensures legs { self.new.legs ≡ self.old.legs }
+        ensures cells { self.new.cells.items ≡ self.old.cells.items }
+        ensures value { to_come self.new ≡ extras_after self.old.legs [] self.old.cells.items size }
+    {
+        self.chosen.clear();
+        self.places.clear();
+        self.at = 0;
+        self.left = size;
+        self.forward = true;
+    }
+
     /// The chosen cells, in their order.
     pub fn chosen(&self) -> &[Cell]
         ensures { result.now ≡ self.now.chosen.items }
