@@ -4,3 +4,4 @@ pub mod Room
 pub mod WorthSets
 pub mod Writing
 pub mod Sizes
+pub mod Filled

@@ -44,7 +44,7 @@ sizes-next legs most i last sets next none l e =
     ∙ ap (λ k. flat_map (all_of_size legs most) (range_with_len k (suc (last - (i + 1))))) up)))
 
 pub sized-itself : (s : SizedSets) → IsSized s → IsSizedSame s s
-sized-itself s v = record { valid = v; legs = refl; most = refl; last = refl; same = refl }
+sized-itself s v = record { valid = v; legs = refl; most = refl; last = refl; size = omega arith; same = refl }
 
 -- the sets of a number of boxes among the cells that are worth it
 pub worth-sets : (legs now : Legs) (cells : List Cell) (sets : List (List Cell)) (most i : ℕ) → now ≡ legs → cells ≡ worth_cells legs most → AreDiagrams legs → i ≤ most → sets ≡ extras_after legs [] cells i → sets ≡ extras_of now most i

@@ -1,4 +1,5 @@
 pub mod Search
 pub mod Room
 pub mod Sized
+pub mod Nodes
 pub use Rattle.tv_spec_boxes.specs.Configurations

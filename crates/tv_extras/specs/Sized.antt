@@ -6,7 +6,8 @@
 -- sizes_of legs most i last sets == these sets of i boxes, and after them all of i + 1 boxes, .., all of `last` boxes
 -- sized s             == the sets that are still to come in a state s
 -- IsSized s           == so it is in s: it searches among the cells that are worth it, and the numbers are in their limits
--- IsSizedSame s t     == t has the same sets to come as s, of the same corner and up to the same number
+-- IsSizedSame s t     == t has the same sets to come as s, of the same corner and up to the same number, and
+--                        none of fewer boxes
 -- IsAdvanced s t      == the set that is chosen in t, with its number, came first in s, and the rest is to come in t
 -- IsExhausted s t     == none was to come in s, nor is in t
 -- Advances b s t      == the one where b holds, else the other
@@ -50,6 +51,7 @@ pub record IsSizedSame (s t : SizedSets) : Type 0 where
   pub legs : t.search.legs ≡ s.search.legs
   pub most : t.most ≡ s.most
   pub last : t.last ≡ s.last
+  pub size : s.size ≤ t.size
   pub same : sized t ≡ sized s
 
 pub record IsAdvanced (s t : SizedSets) : Type 0 where
@@ -57,6 +59,7 @@ pub record IsAdvanced (s t : SizedSets) : Type 0 where
   pub legs : t.search.legs ≡ s.search.legs
   pub most : t.most ≡ s.most
   pub last : t.last ≡ s.last
+  pub size : s.size ≤ t.size
   pub first : sized s ≡ of_size t.size t.search.chosen.items ∷ sized t
 
 pub record IsExhausted (s t : SizedSets) : Type 0 where

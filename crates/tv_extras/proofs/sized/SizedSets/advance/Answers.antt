@@ -14,6 +14,7 @@ returns-then-branch c =
       legs = c.pass.ensures.legs ∙ (found.legs ∙ inv.legs);
       most = inv.most;
       last = inv.last;
+      size = inv.size;
       first = sym inv.same ∙ sized-first s c.find.new.self u found c.pass.ensures.legs c.pass.ensures.chosen c.pass.ensures.passed;
     }
 
@@ -30,6 +31,7 @@ returns-then-self c =
         legs = found.legs ∙ inv.legs;
         most = inv.most;
         last = inv.last;
+        size = inv.size;
         same = sized-same s t found ∙ inv.same;
       };
       none = sizes-none t.legs s.most s.size s.last (to_come t) none c.if-self.true;
@@ -48,5 +50,6 @@ loop-self-preserved c =
       legs = c.restart.ensures.legs ∙ (found.legs ∙ inv.legs);
       most = inv.most;
       last = inv.last;
+      size = omega (arith, inv.size);
       same = sized-next s t u inv.valid found none (omega (arith, inv.valid.size, c.if-self.false)) c.restart.ensures.legs c.restart.ensures.value ∙ inv.same;
     }
