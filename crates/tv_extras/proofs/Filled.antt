@@ -62,7 +62,7 @@ beyond-first s t rest a =
 pub kept-itself : (most : ℕ) (nodes : List Node) → AreNodes most nodes → IsKept most nodes nodes
 kept-itself most nodes v = record { valid = v; legs = refl }
 
-kept-length : (most : ℕ) (s t : List Node) → IsKept most s t → length t ≡ length s
+pub kept-length : (most : ℕ) (s t : List Node) → IsKept most s t → length t ≡ length s
 kept-length most s t k = sym (length-map t (λ node. node.sets.search.legs)) ∙ (ap length k.legs ∙ length-map s (λ node. node.sets.search.legs))
 
 -- a first corner that may stand at any of its sets
@@ -266,3 +266,55 @@ enter-one most n s t [] none v others r = restarted-fill most n n s t [] v other
 
 pub enter-kept : (most first n : ℕ) (s t : Node) (l : List Node) → (length l ≡ 0 → first ≡ n) → IsNode most s l → AreNodes most l → IsRestarted first n s t → IsKept most (s ∷ l) (t ∷ l)
 enter-kept most first n s t l full v others r = restarted-kept most first n s t l v others r full
+
+-- ---- what each return of the search tells
+
+pub none-filled : (most : ℕ) (nodes : List Node) → length nodes ≡ 0 → AreNodes most nodes → IsAllFilled most nodes nodes
+unfolding to_fill
+none-filled most [] e v = record { kept = kept-itself most [] v; was = refl; is = refl }
+none-filled most (node ∷ nodes) e v = absurd (omega arith)
+
+pub last-gives : (most : ℕ) (nodes later : List Node) (s t : Node) → nodes ≡ s ∷ later → length later ≡ 0 → AreNodes most nodes → t.inside ≡ s.inside → (found : Bool) → Advances found s.sets t.sets → Gives most found nodes (t ∷ later)
+last-gives most nodes (node ∷ later) s t e none v inside found a = absurd (omega arith)
+last-gives most nodes [] s t e none v inside true a =
+    let P : List Node → Type 0 = λ ns. IsFilled most ns (t ∷ []) in
+    let first = subst (AreNodes most) e v in
+    subst P (sym e) (last-found most s t first.0 inside a)
+last-gives most nodes [] s t e none v inside false a =
+    let P : List Node → Type 0 = λ ns. IsAllFilled most ns (t ∷ []) in
+    let first = subst (AreNodes most) e v in
+    subst P (sym e) (last-none most s t first.0 inside a)
+
+pub last-keeps : (most : ℕ) (nodes later : List Node) (s t : Node) → nodes ≡ s ∷ later → length later ≡ 0 → AreNodes most nodes → t.inside ≡ s.inside → IsSizedSame s.sets t.sets → IsSameFill most nodes (t ∷ later)
+last-keeps most nodes (node ∷ later) s t e none v inside k = absurd (omega arith)
+last-keeps most nodes [] s t e none v inside k =
+    let P : List Node → Type 0 = λ ns. IsSameFill most ns (t ∷ []) in
+    let first = subst (AreNodes most) e v in
+    subst P (sym e) (last-same most s t first.0 inside k)
+
+pub same-from : (most : ℕ) (nodes s t u : List Node) → nodes ≡ s → IsSameFill most s t → IsSameFill most t u → IsSameFill most nodes u
+same-from most nodes s t u e a b = let P : List Node → Type 0 = λ ns. IsSameFill most ns u in subst P (sym e) (fill-after most s t u a b)
+
+pub filled-from : (most : ℕ) (nodes s t u : List Node) → nodes ≡ s → IsSameFill most s t → IsFilled most t u → IsFilled most nodes u
+filled-from most nodes s t u e a b = let P : List Node → Type 0 = λ ns. IsFilled most ns u in subst P (sym e) (filled-after most s t u a b)
+
+pub none-from : (most : ℕ) (nodes s t u : List Node) → nodes ≡ s → IsSameFill most s t → IsAllFilled most t u → IsAllFilled most nodes u
+none-from most nodes s t u e a b = let P : List Node → Type 0 = λ ns. IsAllFilled most ns u in subst P (sym e) (none-after most s t u a b)
+
+pub kept-after : (most : ℕ) (s t u : List Node) → IsKept most s t → IsKept most t u → IsKept most s u
+kept-after most s t u a b = record { valid = b.valid; legs = b.legs ∙ a.legs }
+
+pub inside-gives : (most : ℕ) (s : Node) (l m : List Node) → s.inside ≡ true → (found : Bool) → Gives most found l m → GivesInside most s found l m
+inside-gives most s l m e true g = (e, g)
+inside-gives most s l m e false g = (g.kept, inside-none s (to_fill l) g.was, inside-none s (to_fill m) g.is)
+
+pub gives-found : (most : ℕ) (s : Node) (l m : List Node) (b : Bool) → b ≡ true → GivesInside most s b l m → (s.inside ≡ true) × IsFilled most l m
+gives-found most s l m true e g = g
+gives-found most s l m false e g = cc
+
+pub gives-none : (most : ℕ) (s : Node) (l m : List Node) (b : Bool) → b ≡ false → GivesInside most s b l m → IsKept most l m × (inside_of s (to_fill l) ≡ []) × (inside_of s (to_fill m) ≡ [])
+gives-none most s l m false e g = g
+gives-none most s l m true e g = cc
+
+pub moved-at : (b v : Bool) (s t : Node) → b ≡ v → IsMovedOn b s t → IsMovedOn v s t
+moved-at b v s t e m = let P : Bool → Type 0 = λ x. IsMovedOn x s t in subst P e m
