@@ -5,3 +5,4 @@ pub mod WorthSets
 pub mod Writing
 pub mod Sizes
 pub mod Filled
+pub mod Corners

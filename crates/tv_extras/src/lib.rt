@@ -2,6 +2,7 @@
 //! one set, and no list of them.
 #![tactic(auto)]
 
+pub mod fillings;
 pub mod nodes;
 pub mod search;
 pub mod sets;

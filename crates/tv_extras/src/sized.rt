@@ -27,6 +27,7 @@ impl SizedSets {
         ensures valid { IfOk result (λ s. IsSized s) }
         ensures legs { IfOk result (λ s. s.search.legs ≡ legs) }
         ensures most { IfOk result (λ s. s.most ≡ most) }
+        ensures full { IfOk result (λ s. s.size ≡ s.last) }
     {
         legs.known();
         let cells = worth::worth_cells(alloc, &legs, most)?;

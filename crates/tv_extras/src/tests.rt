@@ -1,6 +1,7 @@
 //! Sets of extras one at a time, as they are known from outside: beside no legs plane partitions, and beside a leg what the
 //! vertex counts.
 
+use crate::fillings::Fillings;
 use crate::sets::Sets;
 use std::alloc::Global;
 use std::test::Fail;
@@ -55,5 +56,29 @@ fn lists_one_box_beside_a_leg(rt: HostRuntime) -> Result<(), Fail> {
     assert!(rt; next(&mut sets)?.as_slice() == [cell(1, 0, 0)].as_slice());
     assert!(rt; next(&mut sets)?.as_slice() == [cell(0, 1, 0)].as_slice());
     assert!(rt; is_empty(&mut sets)?);
+    Ok(())
+}
+
+fn corners(alloc: Global) -> Result<Vec<Legs>, Fail> {
+    let mut corners = Vec::new(alloc);
+    corners.push(legs(alloc, true)?)?;
+    corners.push(legs(alloc, false)?)?;
+    Ok(corners)
+}
+
+#[test]
+fn lists_fillings_by_one_box(rt: HostRuntime) -> Result<(), Fail> {
+    let mut fillings = Fillings::start(rt.alloc(), corners(rt.alloc())?, 1)?;
+    assert_eq!(rt; fillings.len(), 2);
+    assert!(rt; fillings.next()?);
+    assert!(rt; fillings.at(0).is_empty());
+    assert!(rt; fillings.at(1) == [cell(0, 0, 0)].as_slice());
+    assert!(rt; fillings.next()?);
+    assert!(rt; fillings.at(0) == [cell(1, 0, 0)].as_slice());
+    assert!(rt; fillings.at(1).is_empty());
+    assert!(rt; fillings.next()?);
+    assert!(rt; fillings.at(0) == [cell(0, 1, 0)].as_slice());
+    assert!(rt; !fillings.next()?);
+    assert!(rt; !fillings.next()?);
     Ok(())
 }
