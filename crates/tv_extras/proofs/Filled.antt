@@ -101,8 +101,8 @@ module _ (most : ℕ) (s t : Node) (l m : List Node) (v : IsNode most s l) (some
       record {
         kept = kept-by k.valid k.most k.legs;
         same =
-        ap (λ fs. fs ++ beyond t (legs_of m)) (inside-still s t (to_fill m) unmoved.inside is)
-        ∙ (beyond-same s t (legs_of l) (legs_of m) k kept.legs ∙ ap (λ fs. fs ++ beyond s (legs_of l)) (sym was));
+            ap (λ fs. fs ++ beyond t (legs_of m)) (inside-still s t (to_fill m) unmoved.inside is)
+            ∙ (beyond-same s t (legs_of l) (legs_of m) k kept.legs ∙ ap (λ fs. fs ++ beyond s (legs_of l)) (sym was));
       }
 
   pub step-next : inside_of s (to_fill l) ≡ [] → IsMovedOn true s t → to_fill m ≡ fillings (legs_of l) most (t.sets.last - t.sets.size) → IsSameFill most (s ∷ l) (t ∷ m)
@@ -113,9 +113,9 @@ module _ (most : ℕ) (s t : Node) (l m : List Node) (v : IsNode most s l) (some
       record {
         kept = kept-by a.valid a.most a.legs;
         same =
-        ap (λ fs. fs ++ beyond t (legs_of m)) (inside-is t (to_fill m) moved.inside ∙ ap (behind t.sets.search.chosen.items) (all ∙ ap (λ n. fillings (legs_of l) n (t.sets.last - t.sets.size)) limit))
-        ∙ (ap (λ r. behind t.sets.search.chosen.items (fillings (legs_of l) t.sets.most (t.sets.last - t.sets.size)) ++ beyond t r) kept.legs
-        ∙ (sym (beyond-first s t (legs_of l) a) ∙ ap (λ fs. fs ++ beyond s (legs_of l)) (sym was)));
+            ap (λ fs. fs ++ beyond t (legs_of m)) (inside-is t (to_fill m) moved.inside ∙ ap (behind t.sets.search.chosen.items) (all ∙ ap (λ n. fillings (legs_of l) n (t.sets.last - t.sets.size)) limit))
+            ∙ (ap (λ r. behind t.sets.search.chosen.items (fillings (legs_of l) t.sets.most (t.sets.last - t.sets.size)) ++ beyond t r) kept.legs
+            ∙ (sym (beyond-first s t (legs_of l) a) ∙ ap (λ fs. fs ++ beyond s (legs_of l)) (sym was)));
       }
 
 -- the corner stays where it is
@@ -133,9 +133,9 @@ module _ (most : ℕ) (s : Node) (l m : List Node) (v : IsNode most s l) where
   inside-found inside filled = record {
     kept = stays filled.kept;
     first =
-    ap (λ fs. fs ++ beyond s (legs_of l)) (inside-is s (to_fill l) inside ∙ ap (behind s.sets.search.chosen.items) filled.first)
-    ∙ (ap (λ r. (s.sets.search.chosen.items ∷ currents m) ∷ (behind s.sets.search.chosen.items (to_fill m) ++ beyond s r)) (sym filled.kept.legs)
-    ∙ ap (λ fs. (s.sets.search.chosen.items ∷ currents m) ∷ (fs ++ beyond s (legs_of m))) (sym (inside-is s (to_fill m) inside)));
+        ap (λ fs. fs ++ beyond s (legs_of l)) (inside-is s (to_fill l) inside ∙ ap (behind s.sets.search.chosen.items) filled.first)
+        ∙ (ap (λ r. (s.sets.search.chosen.items ∷ currents m) ∷ (behind s.sets.search.chosen.items (to_fill m) ++ beyond s r)) (sym filled.kept.legs)
+        ∙ ap (λ fs. (s.sets.search.chosen.items ∷ currents m) ∷ (fs ++ beyond s (legs_of m))) (sym (inside-is s (to_fill m) inside)));
   }
 
   pub inside-same : IsSameFill most l m → IsSameFill most (s ∷ l) (s ∷ m)
@@ -181,10 +181,10 @@ module _ (most : ℕ) (s t : Node) (v : IsNode most s []) (inside : t.inside ≡
       record {
         kept = last-kept a.valid a.most a.last a.size a.legs;
         first =
-        ap (λ fs. fs ++ beyond s []) (outside-none s [] (v.outside refl))
-        ∙ (beyond-first s t [] a
-        ∙ (ap (λ fs. behind t.sets.search.chosen.items fs ++ beyond t []) (none-wanted t.sets.most (t.sets.last - t.sets.size) over)
-        ∙ ap (λ fs. (t.sets.search.chosen.items ∷ []) ∷ (fs ++ beyond t [])) (sym (outside-none t [] (inside ∙ v.outside refl)))));
+            ap (λ fs. fs ++ beyond s []) (outside-none s [] (v.outside refl))
+            ∙ (beyond-first s t [] a
+            ∙ (ap (λ fs. behind t.sets.search.chosen.items fs ++ beyond t []) (none-wanted t.sets.most (t.sets.last - t.sets.size) over)
+            ∙ ap (λ fs. (t.sets.search.chosen.items ∷ []) ∷ (fs ++ beyond t [])) (sym (outside-none t [] (inside ∙ v.outside refl)))));
       }
 
   last-same-fill : IsSizedSame s.sets t.sets → to_fill (t ∷ []) ≡ to_fill (s ∷ [])

@@ -7,6 +7,6 @@ pub mod nodes;
 pub mod search;
 pub mod sets;
 pub mod sized;
-pub mod worth;
 #[cfg(test)]
 mod tests;
+pub mod worth;

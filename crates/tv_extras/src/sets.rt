@@ -5,7 +5,7 @@ ghost use Rattle.tv_cells.specs.declared.cell.Cell.{Cell as CellOf};
 ghost use Rattle.tv_spec_boxes.specs.Configurations.{extras_of};
 ghost use Rattle.tv_extras.specs.Search.{to_come, IsSearch};
 
-use crate::search::{Search, MOST_BOXES};
+use crate::search::{MOST_BOXES, Search};
 use crate::worth;
 use std::alloc::{AllocError, Global};
 use std::marker::Model;

@@ -5,7 +5,7 @@ ghost use Rattle.std.specs.Prelude.{◌≡◌, ◌-◌, ◌≤◌, suc, IfOk, Ma
 ghost use Rattle.std.specs.List.{flat_map, range_with_len};
 ghost use Rattle.tv_extras.specs.Sized.{SizedSet, all_of_size, sized, IsSized, IsSizedSame, Advances};
 
-use crate::search::{Search, MOST_BOXES};
+use crate::search::{MOST_BOXES, Search};
 use crate::worth;
 use std::alloc::{AllocError, Global};
 use tv_cells::cell::Cell;

@@ -1,6 +1,8 @@
 //! Sets of extras one at a time, as they are known from outside: beside no legs plane partitions, and beside a leg what the
 //! vertex counts.
 
+ghost use Rattle.std.specs.Prelude.{◌≡◌, length, IfOk};
+
 use crate::fillings::Fillings;
 use crate::sets::Sets;
 use std::alloc::Global;
@@ -59,7 +61,9 @@ fn lists_one_box_beside_a_leg(rt: HostRuntime) -> Result<(), Fail> {
     Ok(())
 }
 
-fn corners(alloc: Global) -> Result<Vec<Legs>, Fail> {
+fn corners(alloc: Global) -> Result<Vec<Legs>, Fail>
+    ensures { IfOk result (λ corners. length corners.items ≡ 2) }
+{
     let mut corners = Vec::new(alloc);
     corners.push(legs(alloc, true)?)?;
     corners.push(legs(alloc, false)?)?;

@@ -78,7 +78,7 @@ next-sets-preserved t c =
     c.enter.ensures.all ∙ (ap (λ gs. fillings gs most c.left.result) g.0.legs ∙ ap (fillings (legs_of l) most) c.left.ensures.value) in
     record {
       same = fill-after most (c.in-Some.node.now ∷ c.in-Some.later.now) (n ∷ l) (a ∷ u) inv
-      (step-next most n a l u inv.kept.valid.0 c.sets.invariant.some kept g.1 (moved-at c.in_ok-advance.field-0 true n a c.if-not-branch.false c.in_ok-advance.ensures) all);
+          (step-next most n a l u inv.kept.valid.0 c.sets.invariant.some kept g.1 (moved-at c.in_ok-advance.field-0 true n a c.if-not-branch.false c.in_ok-advance.ensures) all);
       some = omega (arith, c.sets.invariant.some);
     }
 

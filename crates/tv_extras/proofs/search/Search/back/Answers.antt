@@ -11,8 +11,7 @@ returns-in_default c =
     let was : s.places.items ≡ [] = nil_by s.places.items _ (omega arith) c.in_default.ensures.cases.0 in
     let is : c.pop.new.self.items ≡ [] = nil_by c.pop.new.self.items _ (omega arith) c.in_default.ensures.cases.1 in
     let P : List ℕ → Type 0 = λ places. AreChoices s.cells.items (reverse s.chosen.items) (reverse places) in
-    let none = behind-none s.legs s.cells.items s.chosen.items c.pop.new.self.items s.at s.left s.forward c.requires.behind is in
-    (
+    let none = behind-none s.legs s.cells.items s.chosen.items c.pop.new.self.items s.at s.left s.forward c.requires.behind is in (
       record {
         valid = record { order = c.requires.valid.order; choices = subst P (was ∙ sym is) c.requires.valid.choices; rising = c.requires.valid.rising; within = c.requires.valid.within; few = c.requires.valid.few };
         legs = refl;
