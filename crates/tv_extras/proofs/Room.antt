@@ -1,5 +1,5 @@
 -- Extras with a cell are at least as many as its room, and a greater cell has no less room.
-use Rattle.std.proofs.Common.{◌≡◌, ℕ, zero, suc, ◌+◌, ◌-◌, ◌<◌, ◌≤◌, Bool, true, false, ◌&&◌, ◌||◌, List, [], ◌∷◌, length, slice_index, arith, refl, sym, ◌∙◌, ap, inl, inr}
+use Rattle.std.proofs.Common.{◌≡◌, ℕ, zero, suc, ◌+◌, ◌-◌, ◌<◌, ◌≤◌, Bool, true, false, ◌||◌, List, [], ◌∷◌, length, slice_index, arith, refl, sym, ◌∙◌, ap, inl, inr}
 use Rattle.std.specs.Prelude.{cond, filter, max, nat_eq, nat_lt, nat_le}
 use Rattle.std.specs.List.{list_any}
 use Rattle.std.proofs.lemmas.Bool.{and_from, cases_lt, le-ltb}
@@ -10,7 +10,7 @@ use Rattle.tv_partition.specs.Rows.{has}
 use Rattle.tv_cells.specs.declared.cell.Cell.{Cell}
 use Rattle.tv_cells.specs.declared.legs.Legs.{Legs}
 use Rattle.tv_cells.specs.Cells.{cell, same}
-use Rattle.tv_cells.specs.Extras.{bit, legs_at, in_union, is_extras, AreDiagrams, IsDownClosed}
+use Rattle.tv_cells.specs.Extras.{bit, in_union, is_extras, AreDiagrams, IsDownClosed}
 use Rattle.tv_cells.proofs.Downward.{union_closed}
 use Rattle.tv_laws_counts.proofs.Lines.{AreDifferent, line_length}
 use Rattle.tv_laws_counts.proofs.Rises.{any-filter}

@@ -1,5 +1,5 @@
 -- The sets by rising numbers of boxes: the first of them, and from one number to the next.
-use Rattle.std.proofs.Common.{◌≡◌, ℕ, zero, suc, ◌+◌, ◌-◌, ◌<◌, ◌≤◌, List, [], ◌∷◌, ◌++◌, map, arith, refl, sym, ◌∙◌, ap, subst, Bool, true, false}
+use Rattle.std.proofs.Common.{◌≡◌, ℕ, suc, ◌+◌, ◌-◌, ◌<◌, ◌≤◌, List, [], ◌∷◌, ◌++◌, map, arith, refl, sym, ◌∙◌, ap, subst, Bool, true, false}
 use Rattle.std.specs.List.{flat_map, range_with_len}
 use Rattle.tv_cells.specs.declared.cell.Cell.{Cell}
 use Rattle.tv_cells.specs.declared.legs.Legs.{Legs}
@@ -11,7 +11,7 @@ use Rattle.tv_extras.specs.Room.{worth_cells}
 use Rattle.tv_extras.proofs.WorthSets.{worth-same}
 use Rattle.tv_extras.specs.declared.search.Search.{Search}
 use Rattle.tv_extras.specs.Search.{to_come, Finds, IsSearch, IsSame}
-use Rattle.tv_extras.specs.Sized.{SizedSet, of_size, all_of_size, sizes_of, sized, IsSized, IsSizedSame}
+use Rattle.tv_extras.specs.Sized.{of_size, all_of_size, sizes_of, sized, IsSized, IsSizedSame}
 
 pub sizes-start : (legs : Legs) (most first last : ℕ) (sets : List (List Cell)) → sets ≡ extras_of legs most first → sizes_of legs most first last sets ≡ flat_map (all_of_size legs most) (range_with_len first (suc (last - first)))
 unfolding sizes_of

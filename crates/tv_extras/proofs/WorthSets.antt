@@ -1,12 +1,12 @@
 -- The sets of extras of the cells that are worth it are those of a cube.
-use Rattle.std.proofs.Common.{◌≡◌, ℕ, ◌+◌, ◌-◌, ◌*◌, ◌≤◌, ◌<◌, Bool, true, List, [], ◌++◌, length, subst, refl, sym, ap, ◌∙◌, arith}
+use Rattle.std.proofs.Common.{◌≡◌, ℕ, ◌+◌, ◌-◌, ◌*◌, ◌≤◌, ◌<◌, true, List, [], ◌++◌, length, subst, refl, sym, ap, ◌∙◌, arith}
 use Rattle.std.specs.Prelude.{filter, nat_le, nat_lt}
 use Rattle.std.specs.List.{list_any, list_all}
 use Rattle.std.proofs.lemmas.Bool.{or_right}
 use Rattle.std.proofs.lemmas.Bool.Decides.{nat_tests}
 use Rattle.tv_cells.specs.declared.cell.Cell.{Cell}
 use Rattle.tv_cells.specs.declared.legs.Legs.{Legs}
-use Rattle.tv_cells.specs.Cells.{same, rises, cube, sublists_of}
+use Rattle.tv_cells.specs.Cells.{same, rises, cube}
 use Rattle.tv_cells.specs.Extras.{legs_at, is_extras, AreDiagrams, extent}
 use Rattle.tv_cells.specs.Cuts.{extras_after}
 use Rattle.tv_cells.proofs.Cubes.{cube-rises}

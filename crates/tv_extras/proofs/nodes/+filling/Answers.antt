@@ -2,7 +2,7 @@ use Rattle.std.proofs.Common.{◌≡◌, ◌-◌, ◌∷◌, true, false, sym, �
 use Rattle.std.proofs.lemmas.Result.{MatchResult-weaker, err_from_is_err_and}
 use Rattle.tv_lemmas.proofs.Naturals.{nat_eq-tells}
 use Rattle.tv_spec_boxes.specs.Configurations.{fillings}
-use Rattle.tv_extras.specs.Nodes.{to_fill, legs_of, IsNode}
+use Rattle.tv_extras.specs.Nodes.{to_fill, legs_of}
 use Rattle.tv_extras.proofs.Filled.{outside-none, kept-itself, kept-length, kept-after, none-filled, last-gives, last-keeps, same-from, filled-from, none-from, inside-found, inside-same, inside-gives, gives-found, gives-none, moved-at, step-none, step-same, step-next, fill-after}
 use Rattle.tv_extras.proofs.nodes.+filling.Goals as goal
 

@@ -1,5 +1,4 @@
-use Rattle.std.proofs.Common.{◌≡◌, ◌+◌, sym, ◌∙◌, ap, arith}
-use Rattle.tv_cells.specs.Extras.{extent}
+use Rattle.std.proofs.Common.{◌+◌, sym, ◌∙◌, ap, arith}
 use Rattle.tv_extras.specs.Room.{is_worth}
 use Rattle.tv_extras.proofs.Writing.{diagonals-next}
 use Rattle.tv_extras.proofs.WorthSets.{worth-none, worth-done}

@@ -1,8 +1,8 @@
-use Rattle.std.proofs.Common.{◌≡◌, ◌+◌, ◌<◌, [], ◌++◌, List, ℕ, length, reverse, refl, sym, ◌∙◌, ap, subst, arith}
+use Rattle.std.proofs.Common.{◌≡◌, [], List, ℕ, length, reverse, refl, sym, ◌∙◌, ap, subst, arith}
 use mathlib.Core.Bool.{not}
 use Rattle.tv_cells.specs.Cuts.{leaves_gap}
-use Rattle.tv_extras.specs.Search.{AreChoices, coming}
-use Rattle.tv_extras.proofs.Steps.{IsLast, behind-same, behind-less, behind-none, choices-pop, rises-next, places-some, place-within, pushed-length, nil_by}
+use Rattle.tv_extras.specs.Search.{AreChoices}
+use Rattle.tv_extras.proofs.Steps.{behind-same, behind-less, behind-none, choices-pop, rises-next, places-some, place-within, pushed-length, nil_by}
 use Rattle.tv_extras.proofs.search.Search.back.Goals as goal
 
 pub returns-in_default : goal.returns-in_default

@@ -1,4 +1,4 @@
-use Rattle.std.proofs.Common.{◌≡◌, refl, ◌∙◌, ap, arith}
+use Rattle.std.proofs.Common.{refl, ◌∙◌, ap, arith}
 use mathlib.Core.Bool.{not}
 use Rattle.tv_cells.specs.Cuts.{leaves_gap}
 use Rattle.tv_extras.proofs.Steps.{leave-same, leave-less, rises-next}

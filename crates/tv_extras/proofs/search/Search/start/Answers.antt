@@ -1,4 +1,4 @@
-use Rattle.std.proofs.Common.{◌≡◌, ◌++◌, [], reverse, length, drop, arith, ap}
+use Rattle.std.proofs.Common.{length, arith, ap}
 use Rattle.tv_extras.proofs.Steps.{start-same, start-choices, start-rising}
 use Rattle.tv_extras.proofs.search.Search.start.Goals as goal
 

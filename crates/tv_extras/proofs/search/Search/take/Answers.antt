@@ -1,4 +1,4 @@
-use Rattle.std.proofs.Common.{◌≡◌, refl, arith}
+use Rattle.std.proofs.Common.{refl, arith}
 use Rattle.tv_extras.proofs.Steps.{take-same, take-less, rises-taken, choices-push, pushed-length}
 use Rattle.tv_extras.proofs.search.Search.take.Goals as goal
 
