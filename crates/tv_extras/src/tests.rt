@@ -33,11 +33,8 @@ fn legs(alloc: Global, along_z: bool) -> Result<Legs, Fail> {
     })
 }
 
-fn is_next(sets: &mut Sets, set: &[Cell]) -> Result<bool, Fail> {
-    match sets.next()? {
-        Some(found) => Ok(found.as_slice() == set),
-        None => Ok(false),
-    }
+fn next(sets: &mut Sets) -> Result<Vec<Cell>, Fail> {
+    Ok(sets.next()?.ok_or("a set")?)
 }
 
 fn is_empty(sets: &mut Sets) -> Result<bool, Fail> {
@@ -47,9 +44,9 @@ fn is_empty(sets: &mut Sets) -> Result<bool, Fail> {
 #[test]
 fn lists_two_boxes(rt: HostRuntime) -> Result<(), Fail> {
     let mut sets = Sets::start(rt.alloc(), legs(rt.alloc(), false)?, 2)?;
-    assert!(rt; is_next(&mut sets, &[cell(1, 0, 0), cell(0, 0, 0)])?);
-    assert!(rt; is_next(&mut sets, &[cell(0, 0, 0), cell(0, 0, 1)])?);
-    assert!(rt; is_next(&mut sets, &[cell(0, 0, 0), cell(0, 1, 0)])?);
+    assert!(rt; next(&mut sets)?.as_slice() == [cell(1, 0, 0), cell(0, 0, 0)].as_slice());
+    assert!(rt; next(&mut sets)?.as_slice() == [cell(0, 0, 0), cell(0, 0, 1)].as_slice());
+    assert!(rt; next(&mut sets)?.as_slice() == [cell(0, 0, 0), cell(0, 1, 0)].as_slice());
     assert!(rt; is_empty(&mut sets)?);
     assert!(rt; is_empty(&mut sets)?);
     Ok(())
@@ -58,13 +55,12 @@ fn lists_two_boxes(rt: HostRuntime) -> Result<(), Fail> {
 #[test]
 fn lists_one_box_beside_a_leg(rt: HostRuntime) -> Result<(), Fail> {
     let mut sets = Sets::start(rt.alloc(), legs(rt.alloc(), true)?, 1)?;
-    assert!(rt; is_next(&mut sets, &[cell(1, 0, 0)])?);
-    assert!(rt; is_next(&mut sets, &[cell(0, 1, 0)])?);
+    assert!(rt; next(&mut sets)?.as_slice() == [cell(1, 0, 0)].as_slice());
+    assert!(rt; next(&mut sets)?.as_slice() == [cell(0, 1, 0)].as_slice());
     assert!(rt; is_empty(&mut sets)?);
     Ok(())
 }
 
-// One corner beside a leg, and one beside none.
 fn corners(alloc: Global) -> Result<Vec<Legs>, Fail>
     ensures { IfOk result (λ corners. length corners.items ≡ 2) }
 {
@@ -74,23 +70,18 @@ fn corners(alloc: Global) -> Result<Vec<Legs>, Fail>
     Ok(corners)
 }
 
-fn is_next_filling(fillings: &mut Fillings, first: &[Cell], second: &[Cell]) -> Result<bool, Fail>
-    requires { length fillings.old.current ≡ 2 }
-    ensures { length fillings.new.current ≡ 2 }
-{
-    let found = fillings.next()?;
-    let is_first = fillings.at(0) == first;
-    let is_second = fillings.at(1) == second;
-    Ok(found && (is_first && is_second))
-}
-
 #[test]
 fn lists_fillings_by_one_box(rt: HostRuntime) -> Result<(), Fail> {
     let mut fillings = Fillings::start(rt.alloc(), corners(rt.alloc())?, 1)?;
     assert_eq!(rt; fillings.len(), 2);
-    assert!(rt; is_next_filling(&mut fillings, &[], &[cell(0, 0, 0)])?);
-    assert!(rt; is_next_filling(&mut fillings, &[cell(1, 0, 0)], &[])?);
-    assert!(rt; is_next_filling(&mut fillings, &[cell(0, 1, 0)], &[])?);
+    assert!(rt; fillings.next()?);
+    assert!(rt; fillings.at(0).is_empty());
+    assert!(rt; fillings.at(1) == [cell(0, 0, 0)].as_slice());
+    assert!(rt; fillings.next()?);
+    assert!(rt; fillings.at(0) == [cell(1, 0, 0)].as_slice());
+    assert!(rt; fillings.at(1).is_empty());
+    assert!(rt; fillings.next()?);
+    assert!(rt; fillings.at(0) == [cell(0, 1, 0)].as_slice());
     assert!(rt; !fillings.next()?);
     assert!(rt; !fillings.next()?);
     Ok(())
