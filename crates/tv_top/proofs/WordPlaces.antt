@@ -81,7 +81,6 @@ same_name GenerateName SummaryName e = absurd (let lengths = ap length e in omeg
 same_name SummaryName CheckName e = absurd (let lengths = ap length e in omega arith)
 same_name SummaryName SeriesName e = absurd (let lengths = ap length e in omega arith)
 same_name SummaryName GenerateName e = absurd (let lengths = ap length e in omega arith)
-
 same_name GvName CheckName e = absurd (let lengths = ap length e in omega arith)
 same_name CheckName GvName e = absurd (let lengths = ap length e in omega arith)
 same_name GvName SeriesName e = absurd (let lengths = ap length e in omega arith)

@@ -62,12 +62,14 @@ fn integers_answer(
     match extract(alloc, &series) {
         Ok(integers) => print(alloc, series, integers),
         Err(GvFault::Wide { class, exponent }) => beyond_majorant(alloc, class, exponent),
-        Err(GvFault::Mismatch {
-            class,
-            exponent,
-            series,
-            product,
-        }) => differs(alloc, class, exponent, series.get(), product.get()),
+        Err(
+            GvFault::Mismatch {
+                class,
+                exponent,
+                series,
+                product,
+            },
+        ) => differs(alloc, class, exponent, series.get(), product.get()),
         Err(GvFault::Memory) => Err(Failure::Memory),
     }
 }
