@@ -5,7 +5,7 @@ use Rattle.std.proofs.Common.{refl, ap, ◌∙◌, arith, add-one, length-drop}
 use Rattle.tv_lemmas.specs.Sums.{sum_of}
 use Rattle.tv_partition.specs.Rows.{diagrams}
 use Rattle.tv_class_assignments.specs.Remaining.{Left}
-use Rattle.tv_class_assignments.specs.Walk.{branch, options, steps}
+use Rattle.tv_class_assignments.specs.Steps.{branch, options, steps}
 use Rattle.tv_class_assignments.specs.Moves.{new_frame, larger, later}
 use Rattle.tv_class_assignments.specs.declared.frame.Frame.{Frame}
 

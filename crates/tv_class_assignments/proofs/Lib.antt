@@ -1,3 +1,4 @@
+pub mod Assigned
 mod Lefts
 mod Edges
 mod Walks

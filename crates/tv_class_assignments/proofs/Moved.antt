@@ -14,7 +14,8 @@ use Rattle.tv_spec_boxes.specs.Assignments.{Assignment, choices, class_on, zeros
 use Rattle.tv_degrees.specs.Edges.{edge_at}
 use Rattle.tv_degrees.proofs.Entries.{length-edge_class}
 use Rattle.tv_class_assignments.specs.Remaining.{Left}
-use Rattle.tv_class_assignments.specs.Walk.{with_left, with_diagrams, beside_on, from, chosen, to_come, steps, IsOpen, IsWalk, IsFurther, IsFound}
+use Rattle.tv_class_assignments.specs.Walk.{with_left, with_diagrams, beside_on, from, chosen, to_come, IsOpen, IsWalk, IsFurther, IsFound}
+use Rattle.tv_class_assignments.specs.Steps.{steps}
 use Rattle.tv_class_assignments.specs.Moves.{new_frame, larger, later, IsBehind, IsFirstFrame}
 use Rattle.tv_class_assignments.specs.declared.frame.Frame.{Frame}
 use Rattle.tv_class_assignments.proofs.Lefts.{with_left-last}
@@ -64,7 +65,7 @@ left_unspent w count fs front f was all none valid =
     subst (λ gs. IsFurther w count gs front) (sym was) (record {
       valid = front-walk w count front (f ∷ []) (subst (IsWalk w count) was valid);
       same = sym (ap (to_come w (compact w)) (append-nil front))
-      ∙ to_come-end w (compact w) front [] (f ∷ []) (sym (ap (λ es. to_come w es (f ∷ [])) (behind_all w front all) ∙ none));
+          ∙ to_come-end w (compact w) front [] (f ∷ []) (sym (ap (λ es. to_come w es (f ∷ [])) (behind_all w front all) ∙ none));
       fewer = subst (λ gs. steps count (length (compact w)) gs < steps count (length (compact w)) (front ++ f ∷ [])) (append-nil front) (steps-end count (length (compact w)) 0 front [] (f ∷ []) (omega arith) (steps-left count 0 f));
     })
 

@@ -32,8 +32,10 @@ lasts-next w last more k n pushed is past before = subst (AreLast w) (sym pushed
   where
     there : (p : ℕ) → p < length last → IsPast w p (slice_index_or (last ++ k ∷ []) p 0)
     there p l = subst (IsPast w p) (sym (get_or-append last (k ∷ []) 0 p l)) (before p l)
+
     here : IsPast w (length last) (slice_index_or (last ++ k ∷ []) (length last) 0)
     here = subst (IsPast w (length last)) (sym (get_or-append_seam last k [] 0)) (subst (λ m. IsPast w m k) is past)
+
     each : (p : ℕ) → p < length last + 1 → IsPast w p (slice_index_or (last ++ k ∷ []) p 0)
     each = below_more (λ p. IsPast w p (slice_index_or (last ++ k ∷ []) p 0)) (length last) there here
 

@@ -3,7 +3,8 @@ use Rattle.std.specs.Prelude.{◌≡◌, ℕ, zero, suc, ◌+◌, ◌*◌, ◌<�
 use Rattle.std.proofs.Common.{refl, ap, arith}
 use Rattle.tv_spec_plane.specs.declared.records.CompactEdge.{CompactEdge}
 use Rattle.tv_spec_plane.specs.Web.{Web}
-use Rattle.tv_class_assignments.specs.Walk.{with_left, from, chosen, to_come, branch, options, steps}
+use Rattle.tv_class_assignments.specs.Walk.{with_left, from, chosen, to_come}
+use Rattle.tv_class_assignments.specs.Steps.{branch, options, steps}
 use Rattle.tv_class_assignments.specs.declared.frame.Frame.{Frame}
 
 pub to_come-end : (w : Web) (es : List CompactEdge) (fs gs hs : List Frame) → to_come w (drop (length fs) es) gs ≡ to_come w (drop (length fs) es) hs → to_come w es (fs ++ gs) ≡ to_come w es (fs ++ hs)

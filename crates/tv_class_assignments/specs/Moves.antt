@@ -30,8 +30,10 @@ pub record IsBehind (w : Web) (e : ℕ) (f : Frame) (l : Left) : Type 0 where
   pub word : f.place + 1 < 2 ^ 64
 
 abbrev pub IsChoice : Web → ℕ → Frame → Choice → Type 0
-IsChoice w e f TooMany = from w (edge_at w e) (drop (suc e) (compact w)) f.left f.size f.place ≡ []
-IsChoice w e f Nothing = with_diagrams w (edge_at w e) (drop (suc e) (compact w)) f.left f.size (drop f.place (diagrams f.size)) ≡ []
+IsChoice w e f TooMany =
+    from w (edge_at w e) (drop (suc e) (compact w)) f.left f.size f.place ≡ []
+IsChoice w e f Nothing =
+    with_diagrams w (edge_at w e) (drop (suc e) (compact w)) f.left f.size (drop f.place (diagrams f.size)) ≡ []
 IsChoice w e f (Behind l) = IsBehind w e f l
 
 abbrev pub Moves : Web → ℕ → List Frame → List Frame → Move → Type 0

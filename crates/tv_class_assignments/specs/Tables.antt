@@ -1,6 +1,6 @@
 -- What is tabled of a web and a degree.
 --
--- AreSizes sizes    == they are 0, 1, 2, .. in order
+-- AreSizes sizes    == they are 0, 1, 2, .. in order (of tv_assignment)
 -- IsPast w p k      == no compact edge from number k on has an entry at point p
 -- AreLast w last    == from the number that is listed for a point on, no compact edge has an entry there
 -- AreTables w ns ks   == both, with a number for each point
@@ -8,12 +8,11 @@
 use Rattle.std.specs.Prelude.{◌≡◌, ◌≢◌, ℕ, ◌<◌, ◌≤◌, ℤ, pos, List, length, slice_index_or}
 use Rattle.tv_spec_plane.specs.Web.{Web, compact, edge_class}
 use Rattle.tv_degrees.specs.Edges.{edge_at}
-
-abbrev pub AreSizes : List ℕ → Type 0
-AreSizes sizes = (k : ℕ) → k < length sizes → slice_index_or sizes k 0 ≡ k
+pub use Rattle.tv_assignment.specs.Listing.{AreSizes}
 
 abbrev pub IsPast : Web → ℕ → ℕ → Type 0
-IsPast w p k = (i : ℕ) → k ≤ i → i < length (compact w) → slice_index_or (edge_class w (edge_at w i)) p (pos 0) ≡ pos 0
+IsPast w p k =
+    (i : ℕ) → k ≤ i → i < length (compact w) → slice_index_or (edge_class w (edge_at w i)) p (pos 0) ≡ pos 0
 
 abbrev pub AreLast : Web → List ℕ → Type 0
 AreLast w last = (p : ℕ) → p < length last → IsPast w p (slice_index_or last p 0)

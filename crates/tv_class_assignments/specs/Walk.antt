@@ -1,6 +1,7 @@
 -- The choices that are made edge by edge, and the assignments that are still to come.
 --
--- Frame                  == an edge with what is left there: the diagrams from that place among those of that size on are to come
+-- Frame                  == an edge with what is left there: of that size the diagrams from that place on are to come, and all
+--                           larger ones
 -- with_left w es l       == the assignments of the edges es that spend what is left of the class, and at most what is left
 --                           of the degree
 -- beside_on w e n l      == what is left beside n cells on the edge
@@ -8,25 +9,25 @@
 -- from w e es l n k      == those with diagram number k of n cells on e, or with a later one
 -- chosen f               == the diagram before the one that comes next
 -- to_come w es fs        == those that are still to come after the choices fs on the first of the edges es
--- options count n k      == how many diagrams and sizes there are from that one on, of sizes below count
--- branch, steps          == bounds of the steps: of a new frame with so many edges behind it, and of all frames
+-- coming w fs            == those of the web
 -- IsOpen w count f       == a frame of that web, whose size is no more than the degree that is left, below count
 -- IsWalk w count fs      == frames of that web, at most one more than its edges
 -- IsFurther w count fs gs == the same is to come by fewer steps
 -- IsFound w count fs a gs == the assignment a is next, and the rest is to come
-use Rattle.std.specs.Prelude.{◌≡◌, ℕ, zero, suc, ◌+◌, ◌-◌, ◌*◌, ◌<◌, ◌≤◌, List, [], ◌∷◌, ◌++◌, map, filter, length, drop, cond, nat_le, slice_index_or}
+use Rattle.std.specs.Prelude.{◌≡◌, ℕ, suc, ◌-◌, ◌*◌, ◌<◌, ◌≤◌, List, [], ◌∷◌, ◌++◌, map, filter, length, drop, cond, nat_le, slice_index_or}
 use Rattle.std.specs.List.{AllByRecursion, flat_map, range_with_len}
 use Rattle.tv_lemmas.specs.Naturals.{as_natural}
-use Rattle.tv_lemmas.specs.Sums.{sum_of}
 use Rattle.tv_spec_plane.specs.declared.records.CompactEdge.{CompactEdge}
 use Rattle.tv_spec_plane.specs.Web.{Web, compact, edge_class, edge_degree}
 use Rattle.tv_partition.specs.Rows.{diagrams}
 use Rattle.tv_spec_boxes.specs.Assignments.{Rows, Assignment, choices, class_on, same_vector}
 use Rattle.tv_class_assignments.specs.Remaining.{Left, beside}
+use Rattle.tv_class_assignments.specs.Steps.{steps}
 use Rattle.tv_class_assignments.specs.declared.frame.Frame.{Frame}
 
 unfoldable pub with_left : Web → List CompactEdge → Left → List Assignment
-with_left w es l = filter (λ a. same_vector (class_on w es a) l.class) (choices (map (λ e. as_natural (edge_degree w e)) es) l.degree)
+with_left w es l =
+    filter (λ a. same_vector (class_on w es a) l.class) (choices (map (λ e. as_natural (edge_degree w e)) es) l.degree)
 
 abbrev pub beside_on : Web → CompactEdge → ℕ → Left → Left
 beside_on w e n l = beside n (as_natural (edge_degree w e)) (edge_class w e) l
@@ -50,17 +51,8 @@ to_come w es [] = []
 to_come w [] (f ∷ fs) = with_left w [] f.left
 to_come w (e ∷ es) (f ∷ fs) = map (λ a. chosen f ∷ a) (to_come w es fs) ++ from w e es f.left f.size f.place
 
-unfoldable pub options : ℕ → ℕ → ℕ → ℕ
-options count n k = length (drop k (diagrams n)) + sum_of (λ m. suc (length (diagrams m))) (range_with_len (suc n) (count - suc n))
-
-unfoldable pub branch : ℕ → ℕ → ℕ
-branch count zero = 1
-branch count (suc i) = suc (options count 0 0 * suc (branch count i))
-
-abbrev pub steps : ℕ → ℕ → List Frame → ℕ
-steps count i [] = 0
-steps count zero (f ∷ fs) = 1
-steps count (suc i) (f ∷ fs) = suc (options count f.size f.place * suc (branch count i)) + steps count i fs
+abbrev pub coming : Web → List Frame → List Assignment
+coming w fs = to_come w (compact w) fs
 
 pub record IsOpen (w : Web) (count : ℕ) (f : Frame) : Type 0 where
   pub one_each : length f.left.class ≡ length w.points
@@ -73,9 +65,9 @@ pub record IsWalk (w : Web) (count : ℕ) (fs : List Frame) : Type 0 where
 
 pub record IsFurther (w : Web) (count : ℕ) (fs gs : List Frame) : Type 0 where
   pub valid : IsWalk w count gs
-  pub same : to_come w (compact w) gs ≡ to_come w (compact w) fs
+  pub same : coming w gs ≡ coming w fs
   pub fewer : steps count (length (compact w)) gs < steps count (length (compact w)) fs
 
 pub record IsFound (w : Web) (count : ℕ) (fs : List Frame) (a : Assignment) (gs : List Frame) : Type 0 where
   pub valid : IsWalk w count gs
-  pub next : to_come w (compact w) fs ≡ a ∷ to_come w (compact w) gs
+  pub next : coming w fs ≡ a ∷ coming w gs

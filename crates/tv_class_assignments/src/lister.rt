@@ -1,11 +1,11 @@
 //! The lister of the assignments of a class. It holds one choice for each edge and no list of what is to come.
 
 ghost use Rattle.std.specs.Prelude.{◌≡◌, ◌+◌, ◌≤◌, ◌≤ℤ◌, ◌∷◌, [], pos, length, IfOk, OnErr};
-ghost use Rattle.tv_spec_plane.specs.Web.{compact, degree_of};
+ghost use Rattle.tv_spec_plane.specs.Web.{degree_of};
 ghost use Rattle.tv_spec_boxes.specs.Assignments.{assignments_of};
 ghost use Rattle.tv_lemmas.specs.Naturals.{as_natural};
 ghost use Rattle.tv_class_assignments.specs.Tables.{AreTables};
-ghost use Rattle.tv_class_assignments.specs.Walk.{to_come, IsWalk};
+ghost use Rattle.tv_class_assignments.specs.Walk.{coming, IsWalk};
 ghost use Rattle.tv_class_assignments.specs.Moves.{IsNext, IsFirstFrame};
 
 use crate::frame::Frame;
@@ -31,13 +31,12 @@ pub struct Assignments<'a> {
 
 impl<'a> Model for Assignments<'a> {
     ghost use Rattle.std.specs.Prelude.{List, ℕ, length};
-    ghost use Rattle.tv_spec_plane.specs.Web.{compact};
     ghost use Rattle.tv_class_assignments.specs.Tables.{AreTables};
-    ghost use Rattle.tv_class_assignments.specs.Walk.{to_come, IsWalk};
+    ghost use Rattle.tv_class_assignments.specs.Walk.{coming, IsWalk};
 
     ghost Value = { List (List (List ℕ)) };
 
-    ghost view = { λ s. to_come s.web.now (compact s.web.now) s.frames.items };
+    ghost view = { λ s. coming s.web.now s.frames.items };
 
     ghost invariant = { λ s. AreTables s.web.now s.sizes.items s.last.items × IsWalk s.web.now (length s.sizes.items) s.frames.items };
 }
@@ -71,7 +70,12 @@ impl<'a> Assignments<'a> {
         ensures err { OnErr result (self.new ≡ self.old) }
     {
         let web = self.web;
-        next_of(web, self.sizes.as_slice(), self.last.as_slice(), &mut self.frames)
+        next_of(
+            web,
+            self.sizes.as_slice(),
+            self.last.as_slice(),
+            &mut self.frames,
+        )
     }
 }
 
@@ -108,8 +112,8 @@ fn next_of(
     requires tables { AreTables web.now sizes.now last.now }
     requires valid { IsWalk web.now (length sizes.now) frames.old.items }
     ensures valid { IsWalk web.now (length sizes.now) frames.new.items }
-    ensures ok { IfOk result (λ found. IsNext (to_come web.now (compact web.now) frames.old.items) found (to_come web.now (compact web.now) frames.new.items)) }
-    ensures err { OnErr result (to_come web.now (compact web.now) frames.new.items ≡ to_come web.now (compact web.now) frames.old.items) }
+    ensures ok { IfOk result (λ found. IsNext (coming web.now frames.old.items) found (coming web.now frames.new.items)) }
+    ensures err { OnErr result (coming web.now frames.new.items ≡ coming web.now frames.old.items) }
 {
     'steps: loop {
         match step(web, sizes, last, frames)? {

@@ -109,12 +109,7 @@ fn is_zero(entries: &[i64]) -> bool
 }
 
 // The entries less size times those of the class.
-fn less(
-    alloc: Global,
-    entries: &[i64],
-    class: &[i64],
-    size: u32,
-) -> Result<Vec<i64>, AllocError>
+fn less(alloc: Global, entries: &[i64], class: &[i64], size: u32) -> Result<Vec<i64>, AllocError>
     requires few { size ≤ GREATEST_DEGREE }
     requires same_length { length class.now ≡ length entries.now }
     requires small { AllByRecursion (IsWithin 0) entries.now }

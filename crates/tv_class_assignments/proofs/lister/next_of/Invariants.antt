@@ -1,6 +1,7 @@
 use Rattle.std.proofs.Common.{◌≡◌, length}
 use Rattle.tv_spec_plane.specs.Web.{compact}
-use Rattle.tv_class_assignments.specs.Walk.{to_come, steps, IsWalk}
+use Rattle.tv_class_assignments.specs.Walk.{to_come, IsWalk}
+use Rattle.tv_class_assignments.specs.Steps.{steps}
 use Rattle.tv_class_assignments.proofs.lister.next_of.Given as goal
 
 abbrev pub invariant-steps : goal.invariant-steps
