@@ -48,11 +48,9 @@ IsNext now (Some a) then = now ≡ a ∷ then
 abbrev pub new_frame : Left → Frame
 new_frame l = record { left = l; size = 0; place = 0 }
 
--- the last frame goes on to the next size
 abbrev pub larger : Frame → Frame
 larger f = record { left = f.left; size = f.size + 1; place = 0 }
 
--- the last frame goes on to the next diagram
 abbrev pub later : Frame → Frame
 later f = record { left = f.left; size = f.size; place = f.place + 1 }
 

@@ -7,7 +7,5 @@ mod lister;
 mod moves;
 mod remaining;
 mod tables;
-#[cfg(test)]
-mod tests;
 
 pub use lister::Assignments;
