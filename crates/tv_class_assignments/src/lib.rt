@@ -7,5 +7,7 @@ mod lister;
 mod moves;
 mod remaining;
 mod tables;
+#[cfg(test)]
+mod tests;
 
 pub use lister::Assignments;
