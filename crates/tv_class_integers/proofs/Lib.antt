@@ -1,0 +1,6 @@
+pub mod RowSteps
+pub mod Binomials
+pub mod GatheredPowers
+pub mod Readings
+pub mod OwnPowers
+pub mod FirstOrder

@@ -1,0 +1,5 @@
+pub mod Powers
+pub mod Rows
+pub mod Readings
+pub mod Differences
+pub mod ClassIntegers
