@@ -4,3 +4,4 @@ pub mod GatheredPowers
 pub mod Readings
 pub mod OwnPowers
 pub mod FirstOrder
+pub mod NextClass

@@ -3,3 +3,4 @@ pub mod Rows
 pub mod Readings
 pub mod Differences
 pub mod ClassIntegers
+pub mod NextClasses

@@ -3,6 +3,7 @@
 #![tactic(auto)]
 
 mod differences;
+pub mod laws;
 mod magnitudes;
 mod products;
 mod raised;
