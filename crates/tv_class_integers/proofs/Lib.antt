@@ -5,3 +5,4 @@ pub mod Readings
 pub mod OwnPowers
 pub mod FirstOrder
 pub mod NextClass
+pub mod Majorants

@@ -2,7 +2,7 @@
 //! series of a class are its integers.
 
 ghost use Rattle.tv_class_integers.specs.ClassIntegers.{FirstOrder, FirstOrderSizes};
-ghost use Rattle.tv_class_integers.specs.NextClasses.{ClassIsRead, ClassesKeep, ProductIsRead, ClassAgrees, DifferenceIsFirst};
+ghost use Rattle.tv_class_integers.specs.NextClasses.{ClassIsRead, ClassesKeep, ProductIsRead, ClassAgrees, DifferenceIsFirst, SizeIsMajorant};
 
 /// At the class of further integers, none of which has a genus above the slope, Katz's product is that over the earlier integers less
 /// the powers of 1 - X of the further ones.
@@ -38,4 +38,9 @@ pub fn class_agrees()
 /// The first weight at which they differ is the first exponent of the class at which the product differs from the family.
 pub fn difference_is_first()
     ensures { DifferenceIsFirst }
+{}
+
+/// Where the sizes of series, product and powers at a weight exceed 2^127 - 1, so does the majorant over all integers there.
+pub fn size_is_majorant()
+    ensures { SizeIsMajorant }
 {}
