@@ -1,3 +1,4 @@
 pub mod Printing
 pub mod Sections
 pub mod Remainders
+pub mod IntegerSections

@@ -3,6 +3,7 @@
 #![tactic(auto)]
 
 pub mod check;
+pub mod gv;
 pub mod laws;
 pub mod series;
 pub mod summary;

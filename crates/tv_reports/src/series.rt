@@ -70,7 +70,8 @@ fn push_section(
     Ok(())
 }
 
-fn section_of(alloc: Global, entry: &Entry<'_, Whole>) -> Result<Section, AllocError>
+// The section of a class.
+pub(crate) fn section_of(alloc: Global, entry: &Entry<'_, Whole>) -> Result<Section, AllocError>
     ensures degree { IfOk result (λ s. s.degree ≡ entry.now.degree) }
     ensures entries { IfOk result (λ s. s.entries ≡ entry.now.class.now) }
     ensures terms { IfOk result (λ s. s.terms ≡ terms_of entry.now.series.now) }

@@ -19,7 +19,7 @@ use Rattle.tv_spec_reports.specs.Boxes.{boxes_text}
 use Rattle.tv_spec_reports.specs.Grids.{grid_text}
 use Rattle.tv_spec_reports.specs.Summaries.{Summary, terms_in, sum_in, zero_in, IsSummary, summary_text}
 use Rattle.tv_spec_reports.specs.Grammar.{GvData, IsWideValue, GvTermFits, GvFits, SpellsGv, IsGv}
-use Rattle.tv_spec_reports.specs.Verdicts.{verdict_text, differs_line, majorant_line, long_report_line, report_line}
+use Rattle.tv_spec_reports.specs.Verdicts.{verdict_text, long_report_line, report_line}
 
 two_boxes : boxes_text one_corner (pos 0 ∷ pos 0 ∷ pos 0 ∷ []) (pos 2) ≡ codes "report boxes\nheights 0 0 0\nchi 2\nclass 0 0 0 0\nsign 1\nconfig\nbox 0 1 0 0\nbox 0 0 0 0\nconfig\nbox 0 0 0 0\nbox 0 0 0 1\nconfig\nbox 0 0 0 0\nbox 0 0 1 0\nend\n"
 unfolding one_corner fillings assignments choices compact outer edge_ref edge_ratio turn diagrams diagrams_within cube sublists_of row_cost rows_cost overlap_cost overlaps line_text digits
@@ -172,16 +172,7 @@ yes : verdict_text ≡ codes "report verify\nverdict yes\nend\n"
 unfolding line_text digits
 yes = refl
 
--- a report of the conifold that says 6 at exponent 5 of its curve
-differing : line_text (differs_line (pos 5) (pos 6) (pos 5) (negsuc 0 ∷ pos 1 ∷ negsuc 0 ∷ pos 1 ∷ [])) ≡ codes "refused differs 5 6 5 class -1 1 -1 1\n"
-unfolding line_text digits
-differing = refl
-
--- the other lines of refusals
-wide_majorant : line_text (majorant_line (negsuc 2) (negsuc 0 ∷ pos 1 ∷ negsuc 0 ∷ pos 1 ∷ [])) ≡ codes "refused wide majorant -3 class -1 1 -1 1\n"
-unfolding line_text digits
-wide_majorant = refl
-
+-- the lines of refused reports
 refused_reports : line_text long_report_line ∷ line_text (report_line 12) ∷ [] ≡ codes "refused report 1\n" ∷ codes "refused report 2 12\n" ∷ []
 unfolding line_text digits
 refused_reports = refl

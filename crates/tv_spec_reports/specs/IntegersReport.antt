@@ -5,8 +5,9 @@
 -- integers_of v is    == the integers of the class v other than 0, in the order of the list: genera rise in the list of a family
 -- TellsClass f is s   == the section has the degree of its class, its terms through the exponent of the family, and the integers
 --                        of the list that it has
--- TellsFamily D f text == the text is the report of the family and of its integers through degree D: a section for each of its
---                        classes, in order
+-- TellsIntegers D f is text == the text is the report of the family and of these integers through degree D: a section for each of
+--                        the family's classes, in order
+-- TellsFamily D f text == so it is with the integers of the family
 -- IsIntegersReport w D N text == the text is the report of the reduced series of the web in degrees to D, through N, and of their
 --                        integers; Katz's product over them has each coefficient of the family in these degrees, through N
 use Rattle.std.specs.Prelude.{◌≡◌, ℕ, ℤ, pos, List, [], ◌∷◌, map, not, ◌&&◌, if◌then◌else◌}
@@ -34,11 +35,14 @@ pub record TellsClass (f : Family ℤ) (is : List Integer) (s : GvSection) : Typ
   pub terms : AreTerms (coefficient_of wholes f s.section.entries) f.upto s.section.terms
   pub integers : s.integers ≡ integers_of s.section.entries is
 
-pub record TellsFamily (D : ℕ) (f : Family ℤ) (text : List ℕ) : Type 0 where
+pub record TellsIntegers (D : ℕ) (f : Family ℤ) (is : List Integer) (text : List ℕ) : Type 0 where
   pub sections : List GvSection
   pub classes : map (λ (s : GvSection). s.section.entries) sections ≡ classes f.rows
-  pub each : AllByRecursion (TellsClass f (integers D f)) sections
+  pub each : AllByRecursion (TellsClass f is) sections
   pub printed : text ≡ gv_text f.heights (pos D) f.upto sections
+
+abbrev pub TellsFamily : ℕ → Family ℤ → List ℕ → Type 0
+TellsFamily D f text = TellsIntegers D f (integers D f) text
 
 pub record IsIntegersReport (w : Web) (D : ℕ) (N : ℤ) (text : List ℕ) : Type 0 where
   pub family : Family ℤ

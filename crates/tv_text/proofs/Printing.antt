@@ -9,7 +9,7 @@ use Rattle.tv_lemmas.proofs.Lists.{flat_map-flat_map}
 use Rattle.tv_spec_text.specs.Reports.{Term, Section, term_line, section_lines}
 use Rattle.tv_spec_text.specs.Lines.{Word, Line, line_text, spelled}
 use Rattle.tv_text.specs.Printed.{spaced}
-use Rattle.tv_text.specs.Refusals.{crowd_line, spread_line}
+use Rattle.tv_text.specs.Refusals.{crowd_line, spread_line, majorant_line, differs_line}
 
 pub flat_map-step : {A : Type 0} (f : A → List ℕ) (old now next : List ℕ) (xs : List A) (i : ℕ) (d : A) → i < length xs → now ≡ old ++ flat_map f (take i xs) → next ≡ now ++ f (get_or xs i d) → next ≡ old ++ flat_map f (take (i + 1) xs)
 flat_map-step f old now next xs i d h e n =
@@ -36,13 +36,34 @@ line_text-crowd old now next zs e n =
     line_text-numbers old now next (codes "refused wide crowd class") zs e n
     ∙ ap (λ t. old ++ (t ++ 10 ∷ [])) (join-numbers (codes "refused wide crowd class") zs ∙ sym (ap (λ t. codes "refused wide crowd " ++ t) (join-numbers (codes "class") zs)))
 
--- words, of which each but the first has a space before it, and the numbers
-pub line_text-spread : (old now next : List ℕ) (n : ℤ) (zs : List ℤ) → now ≡ old ++ (codes "refused wide spread " ++ (spelled n ++ codes " class")) → next ≡ now ++ (spaced zs ++ 10 ∷ []) → next ≡ old ++ line_text (spread_line n zs)
+-- words in front, and the numbers behind them
+line_text-front : (old now next front : List ℕ) (line : Line) (zs : List ℤ) → join_with_byte 32 line ≡ front ++ spaced zs → now ≡ old ++ front → next ≡ now ++ (spaced zs ++ 10 ∷ []) → next ≡ old ++ line_text line
 unfolding line_text
-line_text-spread old now next n zs e d =
-    let front = codes "refused wide spread " ++ (spelled n ++ codes " class") in
-    let last : join_with_byte 32 (spread_line n zs) ≡ front ++ spaced zs = ap (λ t. codes "refused wide spread " ++ (spelled n ++ (32 ∷ t))) (join-numbers (codes "class") zs) ∙ ap (λ t. codes "refused wide spread " ++ t) (sym (append_assoc (spelled n) (codes " class") (spaced zs))) in
+line_text-front old now next front line zs last e d =
     d ∙ ap (λ t. t ++ (spaced zs ++ 10 ∷ [])) e ∙ append_assoc old front (spaced zs ++ 10 ∷ []) ∙ ap (λ t. old ++ t) (sym (append_assoc front (spaced zs) (10 ∷ [])) ∙ ap (λ t. t ++ 10 ∷ []) (sym last))
+
+pub line_text-spread : (old now next : List ℕ) (n : ℤ) (zs : List ℤ) → now ≡ old ++ (codes "refused wide spread " ++ (spelled n ++ codes " class")) → next ≡ now ++ (spaced zs ++ 10 ∷ []) → next ≡ old ++ line_text (spread_line n zs)
+line_text-spread old now next n zs = line_text-front old now next (codes "refused wide spread " ++ (spelled n ++ codes " class")) (spread_line n zs) zs
+    (ap (λ t. codes "refused wide spread " ++ (spelled n ++ (32 ∷ t))) (join-numbers (codes "class") zs) ∙ ap (λ t. codes "refused wide spread " ++ t) (sym (append_assoc (spelled n) (codes " class") (spaced zs))))
+
+pub line_text-majorant : (old now next : List ℕ) (n : ℤ) (zs : List ℤ) → now ≡ old ++ (codes "refused wide majorant " ++ (spelled n ++ codes " class")) → next ≡ now ++ (spaced zs ++ 10 ∷ []) → next ≡ old ++ line_text (majorant_line n zs)
+line_text-majorant old now next n zs = line_text-front old now next (codes "refused wide majorant " ++ (spelled n ++ codes " class")) (majorant_line n zs) zs
+    (ap (λ t. codes "refused wide majorant " ++ (spelled n ++ (32 ∷ t))) (join-numbers (codes "class") zs) ∙ ap (λ t. codes "refused wide majorant " ++ t) (sym (append_assoc (spelled n) (codes " class") (spaced zs))))
+
+differs_front : ℤ → ℤ → ℤ → List ℕ
+differs_front n x y = codes "refused differs " ++ (spelled n ++ (codes " " ++ (spelled x ++ (codes " " ++ (spelled y ++ codes " class")))))
+
+join-differs : (n x y : ℤ) (zs : List ℤ) → join_with_byte 32 (differs_line n x y zs) ≡ differs_front n x y ++ spaced zs
+unfolding differs_front
+join-differs n x y zs =
+    ap (λ t. codes "refused differs " ++ (spelled n ++ (32 ∷ (spelled x ++ (32 ∷ (spelled y ++ (32 ∷ t))))))) (join-numbers (codes "class") zs)
+    ∙ ap (λ t. codes "refused differs " ++ t) (sym (append_assoc (spelled n) (32 ∷ (spelled x ++ (32 ∷ (spelled y ++ codes " class")))) (spaced zs)
+    ∙ ap (λ t. spelled n ++ (32 ∷ t)) (append_assoc (spelled x) (32 ∷ (spelled y ++ codes " class")) (spaced zs)
+    ∙ ap (λ t. spelled x ++ (32 ∷ t)) (append_assoc (spelled y) (codes " class") (spaced zs)))))
+
+pub line_text-differs : (old now next : List ℕ) (n x y : ℤ) (zs : List ℤ) → now ≡ old ++ (codes "refused differs " ++ (spelled n ++ (codes " " ++ (spelled x ++ (codes " " ++ (spelled y ++ codes " class")))))) → next ≡ now ++ (spaced zs ++ 10 ∷ []) → next ≡ old ++ line_text (differs_line n x y zs)
+unfolding differs_front
+line_text-differs old now next n x y zs = line_text-front old now next (differs_front n x y) (differs_line n x y zs) zs (join-differs n x y zs)
 
 pub flat_map-whole : {A : Type 0} (f : A → List ℕ) (old now : List ℕ) (xs : List A) (i : ℕ) → length xs ≤ i → now ≡ old ++ flat_map f (take i xs) → now ≡ old ++ flat_map f xs
 flat_map-whole f old now xs i h e = e ∙ ap (λ z. old ++ flat_map f z) (take_all i xs h)

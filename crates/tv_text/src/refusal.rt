@@ -2,7 +2,7 @@
 
 ghost use Rattle.std.specs.Prelude.{◌≡◌, ◌++◌, IfOk, OnOk, string_bytes};
 ghost use Rattle.tv_spec_text.specs.Lines.{line_text};
-ghost use Rattle.tv_text.specs.Refusals.{crowd_line, excess_line, fault_line, spread_line, wide_line, refusal_line};
+ghost use Rattle.tv_text.specs.Refusals.{crowd_line, differs_line, excess_line, fault_line, majorant_line, spread_line, wide_line, refusal_line};
 
 use crate::numbers::end_with_numbers;
 use std::alloc::{AllocError, Global};
@@ -18,6 +18,8 @@ pub enum WideNumber {
     Crowd(Class),
     /// A class and an exponent at which the sizes that meet in the division of its series add up to more.
     Spread { class: Class, exponent: i64 },
+    /// A class and an exponent at which the majorant of the series and of its integers is more.
+    Majorant { class: Class, exponent: i64 },
 }
 
 /// Why nothing is answered.
@@ -30,6 +32,13 @@ pub enum Refusal {
     File(FileFault),
     /// The number of the web that would be too wide.
     Wide(WideNumber),
+    /// The first class and its first exponent at which a series and the product over its integers differ, with both values.
+    Differs {
+        class: Class,
+        exponent: i64,
+        series: i128,
+        product: i128,
+    },
 }
 
 /// The refusal's one line, with its line feed. It errs only for want of memory.
@@ -49,6 +58,12 @@ fn put_refusal(text: &mut String, refusal: &Refusal) -> Result<(), AllocError>
         Refusal::Words(place) => writeln!(text, "refused words {place}"),
         Refusal::File(fault) => put_fault(text, fault),
         Refusal::Wide(wide) => put_wide(text, wide),
+        Refusal::Differs {
+            class,
+            exponent,
+            series,
+            product,
+        } => put_differs(text, *exponent, *series, *product, class.entries()),
     }
 }
 
@@ -91,6 +106,9 @@ fn put_wide(text: &mut String, wide: &WideNumber) -> Result<(), AllocError>
     match wide {
         WideNumber::Crowd(class) => put_crowd(text, class.entries()),
         WideNumber::Spread { class, exponent } => put_spread(text, *exponent, class.entries()),
+        WideNumber::Majorant { class, exponent } => {
+            put_majorant(text, *exponent, class.entries())
+        }
     }
 }
 
@@ -106,6 +124,28 @@ fn put_spread(text: &mut String, exponent: i64, entries: &[i64]) -> Result<(), A
     ensures { OnOk result (string_bytes text.new ≡ string_bytes text.old ++ line_text (spread_line exponent entries.now)) }
 {
     write!(text, "refused wide spread {exponent} class")?;
+    end_with_numbers(text, entries)?;
+    Ok(())
+}
+
+fn put_majorant(text: &mut String, exponent: i64, entries: &[i64]) -> Result<(), AllocError>
+    ensures { OnOk result (string_bytes text.new ≡ string_bytes text.old ++ line_text (majorant_line exponent entries.now)) }
+{
+    write!(text, "refused wide majorant {exponent} class")?;
+    end_with_numbers(text, entries)?;
+    Ok(())
+}
+
+fn put_differs(
+    text: &mut String,
+    exponent: i64,
+    series: i128,
+    product: i128,
+    entries: &[i64],
+) -> Result<(), AllocError>
+    ensures { OnOk result (string_bytes text.new ≡ string_bytes text.old ++ line_text (differs_line exponent series product entries.now)) }
+{
+    write!(text, "refused differs {exponent} {series} {product} class")?;
     end_with_numbers(text, entries)?;
     Ok(())
 }
@@ -126,6 +166,23 @@ mod tests {
         assert_eq!(rt;
             wide.as_slice(),
             b"refused wide spread -7 class -2 2 0\n".as_slice()
+        );
+        Ok(())
+    }
+
+    #[test]
+    fn prints_a_difference(rt: HostRuntime) -> Result<(), Fail> {
+        let class = Class::new(Vec::from_slice(rt.alloc(), [-2, 2, 0].as_slice())?);
+        let differs = Refusal::Differs {
+            class,
+            exponent: 5,
+            series: -6,
+            product: 5,
+        };
+        let text = print_refusal(rt.alloc(), &differs)?;
+        assert_eq!(rt;
+            text.as_slice(),
+            b"refused differs 5 -6 5 class -2 2 0\n".as_slice()
         );
         Ok(())
     }

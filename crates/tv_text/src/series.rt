@@ -112,7 +112,8 @@ fn put_title(text: &mut String, kind: Kind) -> Result<(), AllocError>
     Ok(())
 }
 
-fn put_heights(text: &mut String, heights: &[i64]) -> Result<(), AllocError>
+/// The line of the heights.
+pub fn put_heights(text: &mut String, heights: &[i64]) -> Result<(), AllocError>
     ensures { OnOk result (string_bytes text.new ≡ string_bytes text.old ++ line_text (heights_line heights.now)) }
 {
     write!(text, "heights")?;
@@ -120,22 +121,25 @@ fn put_heights(text: &mut String, heights: &[i64]) -> Result<(), AllocError>
     Ok(())
 }
 
+/// The line of the greatest degree.
 #[tactic(auto, unfolding(tv_spec_text::specs::Lines::line_text))]
-fn put_degree(text: &mut String, degree: i64) -> Result<(), AllocError>
+pub fn put_degree(text: &mut String, degree: i64) -> Result<(), AllocError>
     ensures { OnOk result (string_bytes text.new ≡ string_bytes text.old ++ line_text (degree_line degree)) }
 {
     writeln!(text, "degree {degree}")
 }
 
+/// The line of the last exponent.
 #[tactic(auto, unfolding(tv_spec_text::specs::Lines::line_text))]
-fn put_upto(text: &mut String, upto: i64) -> Result<(), AllocError>
+pub fn put_upto(text: &mut String, upto: i64) -> Result<(), AllocError>
     ensures { OnOk result (string_bytes text.new ≡ string_bytes text.old ++ line_text (upto_line upto)) }
 {
     writeln!(text, "upto {upto}")
 }
 
+/// The last line.
 #[tactic(auto, unfolding(tv_spec_text::specs::Lines::line_text))]
-fn put_end(text: &mut String) -> Result<(), AllocError>
+pub fn put_end(text: &mut String) -> Result<(), AllocError>
     ensures { OnOk result (string_bytes text.new ≡ string_bytes text.old ++ line_text end_line) }
 {
     writeln!(text, "end")
@@ -150,7 +154,8 @@ fn put_sections(text: &mut String, sections: &[Section]) -> Result<(), AllocErro
     Ok(())
 }
 
-fn put_section(text: &mut String, section: &Section) -> Result<(), AllocError>
+/// The line of a class, and a line for each term of its series.
+pub fn put_section(text: &mut String, section: &Section) -> Result<(), AllocError>
     ensures { OnOk result (string_bytes text.new ≡ string_bytes text.old ++ flat_map line_text (section_lines section.now)) }
 {
     put_class(text, section.degree, &section.entries)?;

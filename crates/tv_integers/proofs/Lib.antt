@@ -1,0 +1,10 @@
+pub mod Later
+pub mod Listed
+pub mod Putting
+pub mod Keeping
+pub mod Found
+pub mod Search
+pub mod Places
+pub mod Degrees
+pub mod Genera
+pub mod Kept

@@ -1,0 +1,94 @@
+-- What the sections of a family with integers tell, and how they are printed.
+use Rattle.std.proofs.Common.{◌≡◌, ◌≢◌, ℕ, ◌+◌, ◌≤◌, ℤ, pos, List, [], ◌∷◌, ◌++◌, length, map, take, Some, Bool, true, false, refl, sym, ap, ◌∙◌, subst, append_assoc}
+use Rattle.std.specs.List.{AllByRecursion, flat_map, slice_get, Contains}
+use Rattle.std.specs.Ordering.{int_eq}
+use Rattle.std.proofs.lemmas.Bool.Decides.{Decides-int_eq}
+use Rattle.std.proofs.lemmas.List.Concat.{flat_map-append}
+use Rattle.std.proofs.lemmas.List.Folds.{flat_map-map}
+use Rattle.std.proofs.lemmas.Option.{slice_get_within, get_or_from_slice_get}
+use Rattle.tv_lemmas.proofs.Lists.{flat_map-flat_map}
+use Rattle.tv_lemmas.proofs.Members.{contains-head, contains-later}
+use Rattle.tv_ring.specs.Whole.{wholes, IsAny}
+use Rattle.tv_laws_series.specs.Terms.{Terms}
+use Rattle.tv_laws_series.proofs.NormalForm.{bool_cases}
+use Rattle.tv_spec_plane.specs.Web.{degree_of}
+use Rattle.tv_spec_boxes.specs.Assignments.{same_vector}
+use Rattle.tv_spec_series.specs.Families.{Row, Family, row, classes, coefficient, coefficient_of, find, series_coefficient, IsFamily}
+use Rattle.tv_spec_series.proofs.Members.{row_found}
+use Rattle.tv_spec_katz.specs.Katz.{Integer}
+use Rattle.tv_spec_text.specs.Lines.{Line, line_text}
+use Rattle.tv_spec_text.specs.Reports.{AreTerms, section_lines}
+use Rattle.tv_spec_reports.specs.IntegerLines.{GvSection, integer_line, gv_section_lines, gv_text}
+use Rattle.tv_spec_reports.specs.IntegersReport.{integers_of, TellsClass, TellsIntegers}
+use Rattle.tv_integers.specs.declared.genus_value.GenusValue.{GenusValue}
+use Rattle.tv_integers.specs.Kept.{AreKept, values_of}
+use Rattle.tv_text.proofs.Printing.{flat_map-step, flat_map-whole}
+use Rattle.tv_reports.specs.Sections.{section_of, TellsRow}
+use Rattle.tv_reports.specs.IntegerSections.{gv_section, gv_sections, value_line, entry_lines, TextTells}
+use Rattle.tv_reports.proofs.Sections.{sections_tell}
+
+-- ---- what they tell
+
+abbrev RowsAre : Family ℤ → List (Row ℤ) → Type 0
+RowsAre f rows = AllByRecursion (λ (x : Row ℤ). find x.class f.rows ≡ Some x) rows
+
+rows_found : (f : Family ℤ) (rows : List (Row ℤ)) → ((x : Row ℤ) → Contains rows x → find x.class f.rows ≡ Some x) → RowsAre f rows
+rows_found f [] each = tt
+rows_found f (x ∷ rows) each = (each x (contains-head x x rows refl), rows_found f rows (λ y among. each y (contains-later y x rows among)))
+
+tells_each : (f : Family ℤ) (is : List Integer) (rows : List (Row ℤ)) → RowsAre f rows → AllByRecursion (λ x. TellsRow f x (section_of f.heights x)) rows → AllByRecursion (TellsClass f is) (map (gv_section f.heights is) rows)
+tells_each f is [] found tells = tt
+tells_each f is (x ∷ rows) found tells = (
+  record {
+    degree = refl;
+    terms = subst (λ (g : ℤ → ℤ). AreTerms g f.upto (section_of f.heights x).terms) (ap (λ o. λ n. series_coefficient wholes n o) (sym found.0)) tells.0.terms;
+    integers = refl;
+  },
+  tells_each f is rows found.1 tells.1,
+)
+
+classes_of : (hs : List ℤ) (is : List Integer) (rows : List (Row ℤ)) → map (λ (s : GvSection). s.section.entries) (map (gv_section hs is) rows) ≡ classes rows
+classes_of hs is [] = refl
+classes_of hs is (x ∷ rows) = ap (λ vs. x.class ∷ vs) (classes_of hs is rows)
+
+pub text_tells : TextTells
+text_tells D f is family top = record {
+  sections = gv_sections f is;
+  classes = classes_of f.heights is f.rows;
+  each = tells_each f is f.rows (rows_found f f.rows (λ x among. row_found f.heights f.rows x family.rises among)) (sections_tell f family);
+  printed = ap (λ (d : ℤ). gv_text f.heights d f.upto (gv_sections f is)) top;
+}
+
+-- ---- how they are printed
+
+not_zero : (z : ℤ) → z ≢ pos 0 → int_eq z (pos 0) ≡ false
+not_zero z other = bool_cases (int_eq z (pos 0)) (λ t. absurd (other ((Decides-int_eq z (pos 0)).0 t))) (λ f. f)
+
+pub value_lines : (hs v : List ℤ) (is : List Integer) → AreKept hs is → map value_line (values_of v is) ≡ map integer_line (integers_of v is)
+value_lines hs v [] kept = refl
+value_lines hs v (i ∷ is) kept =
+    let z = not_zero i.value kept.0.1 in let rest = value_lines hs v is kept.1.1 in
+    bool_cases (same_vector i.class v) (λ e. rw (e, z) (ap (λ ls. integer_line (record { genus = i.genus; value = i.value }) ∷ ls) rest)) (λ e. rw e rest)
+
+abbrev pub row_text : List ℤ → List Integer → Row ℤ → List ℕ
+row_text hs is x = flat_map line_text (gv_section_lines (gv_section hs is x))
+
+-- an entry with the integers of its class is printed as the section of its row
+pub entry_told : (old now : List ℕ) (kept_under hs : List ℤ) (is : List Integer) (d : ℤ) (v : List ℤ) (s : Terms ℤ) (gs : List GenusValue) → AreKept kept_under is → d ≡ degree_of hs v → gs ≡ values_of v is → now ≡ old ++ flat_map line_text (entry_lines d v s gs) → now ≡ old ++ row_text hs is (row v s)
+entry_told old now kept_under hs is d v s gs kept degree values e =
+    let lines : entry_lines d v s gs ≡ gv_section_lines (gv_section hs is (row v s)) =
+    ap (λ z. entry_lines z v s gs) degree ∙ ap (λ ls. section_lines (section_of hs (row v s)) ++ map value_line ls) values ∙ ap (λ ls. section_lines (section_of hs (row v s)) ++ ls) (value_lines kept_under v is kept) in
+    e ∙ ap (λ ls. old ++ flat_map line_text ls) lines
+
+pub two_parts : (xs ys : List Line) (old now next : List ℕ) → now ≡ old ++ flat_map line_text xs → next ≡ now ++ flat_map line_text ys → next ≡ old ++ flat_map line_text (xs ++ ys)
+two_parts xs ys old now next e n =
+    n ∙ ap (λ t. t ++ flat_map line_text ys) e ∙ append_assoc old (flat_map line_text xs) (flat_map line_text ys) ∙ ap (λ t. old ++ t) (sym (flat_map-append line_text xs ys))
+
+pub one_more : (hs : List ℤ) (is : List Integer) (rows : List (Row ℤ)) (old now next : List ℕ) (k : ℕ) (x : Row ℤ) → slice_get rows k ≡ Some x → now ≡ old ++ flat_map (row_text hs is) (take k rows) → next ≡ now ++ row_text hs is x → next ≡ old ++ flat_map (row_text hs is) (take (k + 1) rows)
+one_more hs is rows old now next k x found e n =
+    flat_map-step (row_text hs is) old now next rows k x (slice_get_within rows k x found) e (n ∙ ap (λ y. now ++ row_text hs is y) (sym (get_or_from_slice_get rows k x x found)))
+
+pub all_rows : (hs : List ℤ) (is : List Integer) (rows : List (Row ℤ)) (old now : List ℕ) (k : ℕ) → length rows ≤ k → now ≡ old ++ flat_map (row_text hs is) (take k rows) → now ≡ old ++ flat_map line_text (flat_map gv_section_lines (map (gv_section hs is) rows))
+all_rows hs is rows old now k h e =
+    flat_map-whole (row_text hs is) old now rows k h e
+    ∙ ap (λ t. old ++ t) (sym (flat_map-flat_map line_text (λ x. gv_section_lines (gv_section hs is x)) rows) ∙ ap (flat_map line_text) (sym (flat_map-map gv_section_lines (gv_section hs is) rows)))
