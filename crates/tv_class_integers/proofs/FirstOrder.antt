@@ -41,7 +41,7 @@ pub onto-one : (v : List ℤ) (g : ℕ) (x : ℤ) (is : List Integer) → int_eq
     with_integer v g x is ≡ record { class = v; genus = g; value = x } ∷ is
 onto-one v g x is off = rw off refl
 
-zero-cases : (x : ℤ) → (x ≡ pos 0) ⊎ (int_eq x (pos 0) ≡ false)
+pub zero-cases : (x : ℤ) → (x ≡ pos 0) ⊎ (int_eq x (pos 0) ≡ false)
 zero-cases x = elim (cases_Bool (int_eq x (pos 0))) [
   | inl on ↦ inl ((Decides-int_eq x (pos 0)).0 on)
   | inr off ↦ inr off

@@ -1,0 +1,5 @@
+pub mod ClassesAfter
+pub mod Lookups
+pub mod OwnPowersIn
+pub mod Tables
+pub mod ReadEntries

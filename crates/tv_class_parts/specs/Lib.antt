@@ -1,0 +1,2 @@
+pub mod ReadClasses
+pub mod Tables
