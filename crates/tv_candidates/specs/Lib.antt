@@ -1,0 +1,4 @@
+pub mod Degrees
+pub mod Sums
+pub mod Closing
+pub mod Slopes

@@ -1,0 +1,3 @@
+pub mod Central
+pub mod Leads
+pub mod Wide
