@@ -7,7 +7,7 @@
 -- sum-here             the sum at the next entry
 -- summed-none, summed-more, summed-all  no sum yet, one more, and all; summed-wide, where one more is too wide
 use Rattle.std.specs.Prelude.{◌≡◌, ℕ, zero, suc, ◌+◌, ◌<◌, ◌≤◌, ℤ, pos, ◌+ℤ◌, List, [], ◌∷◌, ◌++◌, length, unsigned_abs}
-use Rattle.std.proofs.Common.{refl, sym, ap, arith, ◌∙◌, inl, inr, get_or, drop, append_assoc, append-nil, length-append}
+use Rattle.std.proofs.Common.{refl, sym, ap, arith, ◌∙◌, get_or, drop, append_assoc, append-nil, length-append}
 use Rattle.std.proofs.Math.Seq.{drop-cons}
 use Rattle.std.proofs.lemmas.Int.{ints}
 use Rattle.std.proofs.lemmas.List.{drop_all}
@@ -88,7 +88,7 @@ module _ (row : List ℤ) (i : ℕ) (before x : ℤ) (sums : List ℤ) (was : Is
       at-seam sums (pair_sums x (drop (suc i) row)) (before +ℤ x))
 
   pub summed-more : (next : List ℤ) → next ≡ sums ++ (before +ℤ x) ∷ [] → IsSummed row (i + 1) x next
-  summed-more next e = 
+  summed-more next e =
       let one : i + 1 ≡ suc i = omega arith in
       record {
         whole =

@@ -4,7 +4,7 @@
 -- lead-signed, lead-sized  what factors add with their signs, and without
 -- product-one, sizes-one   one integer more, by weight
 -- first_order_sum, first_order_sizes  all integers of the class
-use Rattle.std.specs.Prelude.{◌≡◌, ◌≢◌, ◌⊎◌, ℕ, ◌+◌, ◌-◌, ◌≤◌, ◌<◌, ℤ, pos, neg_ℤ, ◌+ℤ◌, ◌-ℤ◌, ◌*ℤ◌, ◌≤ℤ◌, unsigned_abs, List, [], ◌∷◌, ◌++◌, length, map, true, false}
+use Rattle.std.specs.Prelude.{◌≡◌, ◌⊎◌, ℕ, ◌+◌, ℤ, pos, neg_ℤ, ◌+ℤ◌, ◌-ℤ◌, ◌*ℤ◌, unsigned_abs, List, [], ◌∷◌, length, map, false}
 use Rattle.std.specs.List.{AllByRecursion}
 use Rattle.std.specs.Ordering.{int_eq}
 use Rattle.std.proofs.Common.{refl, sym, ap, arith, ◌∙◌, inl, inr}
@@ -12,12 +12,12 @@ use Rattle.std.proofs.lemmas.Int.{ints}
 use Rattle.std.proofs.lemmas.List.{map-append}
 use Rattle.std.proofs.lemmas.Bool.{cases_Bool}
 use Rattle.std.proofs.lemmas.Bool.Decides.{Decides-int_eq}
-use Rattle.tv_lemmas.proofs.Members.{all-onto, all-map}
+use Rattle.tv_lemmas.proofs.Members.{all-map}
 use Rattle.tv_spec_plane.specs.Web.{degree_of}
 use Rattle.tv_spec_katz.specs.Binomials.{power_at}
-use Rattle.tv_spec_katz.specs.Places.{Place, place, difference, unit}
+use Rattle.tv_spec_katz.specs.Places.{Place, difference, unit}
 use Rattle.tv_spec_katz.specs.Product.{Factor, product}
-use Rattle.tv_spec_katz.specs.Katz.{Integer, factor_at, factors_by, factors}
+use Rattle.tv_spec_katz.specs.Katz.{Integer, factors_by, factors}
 use Rattle.tv_spec_katz.specs.Integers.{with_integer}
 use Rattle.tv_spec_katz.specs.Majorant.{without_sign, absolute_product}
 use Rattle.tv_laws_katz.specs.Weights.{IsWithinSlope}
@@ -26,11 +26,11 @@ use Rattle.tv_laws_katz.proofs.LargerBound.{product-absolute}
 use Rattle.tv_laws_katz.proofs.Leading.{lead, IsHigh, first_order}
 use Rattle.tv_laws_katz.proofs.Powers.{power_at-one}
 use Rattle.tv_recurrence.specs.KatzParts.{katz_by_weight}
-use Rattle.tv_recurrence.specs.Products.{exponent_at, at_weight, product_by_weight}
+use Rattle.tv_recurrence.specs.Products.{exponent_at, at_weight}
 use Rattle.tv_recurrence.proofs.KatzTotals.{katz_by_weight-product}
 use Rattle.tv_recurrence.proofs.WeightedPlaces.{place-weight}
 use Rattle.tv_class_integers.specs.Powers.{added}
-use Rattle.tv_class_integers.specs.Readings.{genus_at, power_sum, power_size, product_at}
+use Rattle.tv_class_integers.specs.Readings.{genus_at}
 use Rattle.tv_class_integers.specs.ClassIntegers.{onto, IsAtBase, FirstOrder, FirstOrderSizes}
 use Rattle.tv_class_integers.proofs.OwnPowers.{lead_by, own-added, added-none, IsByPower}
 

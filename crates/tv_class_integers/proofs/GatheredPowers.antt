@@ -3,7 +3,7 @@
 -- IsListedTo powers i list == the list has the powers other than 0 at steps below i, each once
 -- listed-none, listed-same, listed-more  no power yet, one that is 0, and one that is not
 -- listed-powers, listed-once  all of them
-use Rattle.std.specs.Prelude.{◌≡◌, ◌⊎◌, ℕ, ◌+◌, ◌<◌, ◌≤◌, ℤ, pos, ◌+ℤ◌, List, [], ◌∷◌, ◌++◌, length, nat_eq, true, false}
+use Rattle.std.specs.Prelude.{◌≡◌, ℕ, ◌+◌, ◌<◌, ◌≤◌, ℤ, pos, ◌+ℤ◌, List, [], ◌∷◌, ◌++◌, length, nat_eq, true, false}
 use Rattle.std.specs.List.{AllByRecursion, IsDistinct}
 use Rattle.std.proofs.Common.{refl, sym, ap, arith, ◌∙◌, inl, inr}
 use Rattle.std.proofs.lemmas.Int.{ints}
@@ -11,7 +11,6 @@ use Rattle.std.proofs.lemmas.Bool.{cases_lt}
 use Rattle.std.proofs.lemmas.Bool.Decides.{nat_tests}
 use Rattle.tv_ring.specs.Whole.{wholes}
 use Rattle.tv_ring.specs.Sums.{at}
-use Rattle.tv_lemmas.specs.Sums.{total}
 use Rattle.tv_lemmas.proofs.Distinct.{distinct-append}
 use Rattle.tv_lemmas.proofs.Members.{all-append, all-onto}
 use Rattle.tv_lemmas.proofs.Sums.{total-append}

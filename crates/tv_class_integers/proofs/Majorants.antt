@@ -4,14 +4,12 @@
 -- product-front     more factors without sign make the product greater
 -- absolute-more     so do more integers
 -- size_is_majorant  the law
-use Rattle.std.specs.Prelude.{◌≡◌, ◌⊎◌, ℕ, zero, suc, ◌+◌, ◌*◌, ◌<◌, ◌≤◌, ℤ, pos, negsuc, neg_ℤ, ◌+ℤ◌, ◌-ℤ◌, ◌*ℤ◌, ◌≤ℤ◌, ◌<ℤ◌, unsigned_abs, int_le, nat_eq, true, false, List, [], ◌∷◌, ◌++◌, length, map}
+use Rattle.std.specs.Prelude.{◌≡◌, ℕ, zero, suc, ◌+◌, ◌*◌, ◌≤◌, ℤ, pos, neg_ℤ, ◌+ℤ◌, ◌*ℤ◌, ◌≤ℤ◌, ◌<ℤ◌, unsigned_abs, int_le, nat_eq, true, false, List, [], ◌∷◌, ◌++◌, length, map}
 use Rattle.std.specs.List.{AllByRecursion}
-use Rattle.std.proofs.Common.{refl, sym, ap, arith, ◌∙◌, inl, inr}
+use Rattle.std.proofs.Common.{refl, sym, ap, arith, ◌∙◌}
 use Rattle.std.proofs.Math.IntN.{*ℤ-zero}
 use Rattle.std.proofs.lemmas.Int.{ints, by_lt_z}
-use Rattle.std.proofs.lemmas.List.{map-append}
 use Rattle.std.proofs.lemmas.Bool.Decides.{nat_tests}
-use Rattle.tv_ring.specs.Operations.{limit}
 use Rattle.tv_ring.specs.Whole.{wholes}
 use Rattle.tv_lemmas.specs.Naturals.{as_natural}
 use Rattle.tv_lemmas.proofs.Naturals.{as_natural-is, as_natural-above}
@@ -23,7 +21,7 @@ use Rattle.tv_spec_katz.specs.Binomials.{choose, binomial, power_sign, power_at,
 use Rattle.tv_spec_katz.specs.Places.{Place, place, difference_by}
 use Rattle.tv_spec_katz.specs.Product.{Factor, times, product}
 use Rattle.tv_spec_katz.specs.Katz.{Integer, factors_by, factors, katz}
-use Rattle.tv_spec_katz.specs.Majorant.{without_sign, absolute_product, counted, majorant_end, is_counted_class, has_majorant, bound_at, majorant}
+use Rattle.tv_spec_katz.specs.Majorant.{without_sign, absolute_product, counted, majorant_end, is_counted_class, bound_at, majorant}
 use Rattle.tv_laws_katz.specs.Weights.{weight, IsWithinSlope}
 use Rattle.tv_laws_katz.proofs.LargerBound.{product-absolute}
 use Rattle.tv_laws_katz.proofs.Powers.{power_at-zero, power_at-negsuc, power_sign-size}
@@ -32,8 +30,7 @@ use Rattle.tv_laws_integers.specs.Closed.{IsClassTo}
 use Rattle.tv_laws_integers.proofs.Slopes.{slopes-least}
 use Rattle.tv_recurrence.specs.KatzParts.{katz_by_weight}
 use Rattle.tv_recurrence.specs.Products.{exponent_at}
-use Rattle.tv_class_integers.specs.Readings.{readings, power_size, size_at}
-use Rattle.tv_class_integers.specs.NextClasses.{series_by_weight, class_readings, read_onto, IsNextClass, IsLastOf, SizeIsMajorant}
+use Rattle.tv_class_integers.specs.NextClasses.{series_by_weight, class_readings, read_onto, SizeIsMajorant}
 use Rattle.tv_class_integers.proofs.FirstOrder.{first_order_sizes}
 use Rattle.tv_class_integers.proofs.NextClass.{at-base, slopes}
 use Rattle.tv_class_integers.proofs.Readings.{length-readings}

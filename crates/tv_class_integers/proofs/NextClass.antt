@@ -5,32 +5,31 @@
 -- read-to           after some numbers the genera are read from the greatest one down
 -- class-read        after all of them the class is read
 -- class_is_read, classes_keep, product_is_read, class_agrees, difference_is_first  the laws
-use Rattle.std.specs.Prelude.{◌≡◌, ◌≢◌, ◌⊎◌, Contains, ℕ, zero, suc, ◌+◌, ◌-◌, ◌*◌, ◌<◌, ◌≤◌, ◌%◌, ℤ, pos, negsuc, ◌+ℤ◌, ◌-ℤ◌, ◌*ℤ◌, ◌≤ℤ◌, ◌<ℤ◌, unsigned_abs, List, [], ◌∷◌, ◌++◌, length}
+use Rattle.std.specs.Prelude.{◌≡◌, ◌⊎◌, ℕ, zero, suc, ◌+◌, ◌-◌, ◌≤◌, ◌%◌, ℤ, pos, negsuc, ◌+ℤ◌, ◌-ℤ◌, ◌*ℤ◌, ◌<ℤ◌, unsigned_abs, List, [], ◌∷◌, ◌++◌}
 use Rattle.std.specs.List.{AllByRecursion}
 use Rattle.std.proofs.Common.{refl, sym, ap, arith, ◌∙◌, inl, inr}
 use Rattle.std.proofs.lemmas.Int.{ints}
 use Rattle.tv_lemmas.proofs.Members.{all-onto, all-contains}
-use Rattle.tv_lemmas.specs.Naturals.{as_natural}
 use Rattle.tv_ring.specs.Whole.{wholes}
 use Rattle.tv_spec_plane.specs.Web.{degree_of}
 use Rattle.tv_spec_boxes.specs.Classes.{IsBefore}
 use Rattle.tv_spec_series.specs.Families.{Family, coefficient_of}
 use Rattle.tv_spec_katz.specs.Binomials.{power_sign}
 use Rattle.tv_spec_katz.specs.Katz.{Integer, katz}
-use Rattle.tv_spec_katz.specs.Integers.{Agrees, Differs, read_genus, new_integer, with_integer}
+use Rattle.tv_spec_katz.specs.Integers.{Agrees, read_genus, new_integer, with_integer}
 use Rattle.tv_laws_katz.specs.Weights.{IsWithinSlope}
 use Rattle.tv_laws_katz.proofs.LargerBound.{vanishes_by_slope}
 use Rattle.tv_laws_katz.proofs.Powers.{power_sign-same, power_sign-square, twice_signed}
-use Rattle.tv_laws_integers.specs.Closed.{IsClassTo, IsListed}
-use Rattle.tv_laws_integers.specs.Reading.{BeginsAbove, AgreesThrough, IsBegun}
+use Rattle.tv_laws_integers.specs.Closed.{IsListed}
+use Rattle.tv_laws_integers.specs.Reading.{IsBegun}
 use Rattle.tv_laws_integers.proofs.Classes.{IsReadOf}
 use Rattle.tv_laws_integers.proofs.Steps.{IsReadTo, read_none, read_next, read_whole, begun_next, begun_within}
 use Rattle.tv_recurrence.specs.KatzParts.{katz_by_weight}
 use Rattle.tv_recurrence.specs.Products.{exponent_at}
-use Rattle.tv_class_integers.specs.Readings.{genus_at, readings, all_readings, next_value, product_at, sign_at}
+use Rattle.tv_class_integers.specs.Readings.{genus_at, readings, next_value, product_at, sign_at}
 use Rattle.tv_class_integers.specs.ClassIntegers.{onto, IsAtBase}
 use Rattle.tv_class_integers.specs.Differences.{AgreeBelow}
-use Rattle.tv_class_integers.specs.NextClasses.{series_by_weight, class_readings, read_onto, product_after, IsNextClass, ClassIsRead, ClassesKeep, ProductIsRead, ClassAgrees, DifferenceIsFirst}
+use Rattle.tv_class_integers.specs.NextClasses.{series_by_weight, read_onto, product_after, IsNextClass, ClassIsRead, ClassesKeep, ProductIsRead, ClassAgrees, DifferenceIsFirst}
 use Rattle.tv_class_integers.proofs.Readings.{length-readings}
 use Rattle.tv_class_integers.proofs.FirstOrder.{first_order_sum, slope-onto}
 

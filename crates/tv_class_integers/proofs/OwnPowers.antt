@@ -6,7 +6,7 @@
 -- none-here, one-here  what they add where none of them stands, and where one does
 -- own-added         what the factors of an integer add at a weight
 -- added-none        an integer 0 adds nothing
-use Rattle.std.specs.Prelude.{◌≡◌, ◌⊎◌, ℕ, zero, suc, ◌+◌, ◌-◌, ◌*◌, ◌<◌, ◌≤◌, ℤ, pos, neg_ℤ, ◌+ℤ◌, ◌-ℤ◌, ◌*ℤ◌, ◌≤ℤ◌, ◌<ℤ◌, unsigned_abs, List, [], ◌∷◌, true, false, nat_lt}
+use Rattle.std.specs.Prelude.{◌≡◌, ℕ, zero, suc, ◌+◌, ◌-◌, ◌*◌, ◌<◌, ◌≤◌, ℤ, pos, ◌+ℤ◌, ◌-ℤ◌, ◌*ℤ◌, List, [], ◌∷◌, true, false, nat_lt}
 use Rattle.std.proofs.Common.{refl, sym, ap, arith, ◌∙◌, inl, inr}
 use Rattle.std.proofs.Math.IntN.{*ℤ-zero, zero-*ℤ}
 use Rattle.std.proofs.lemmas.Int.{ints}
@@ -19,8 +19,8 @@ use Rattle.tv_spec_katz.specs.Places.{Place, place, class_difference, difference
 use Rattle.tv_spec_katz.specs.Product.{Factor}
 use Rattle.tv_spec_katz.specs.Katz.{Integer, factor_at, genus_zero, higher_below, higher_exponent, higher_power, factors_by}
 use Rattle.tv_laws_katz.proofs.Powers.{choose-whole, choose-beyond, power_sign-same}
-use Rattle.tv_laws_katz.proofs.Units.{IsUnit, unit-one, unit-none}
-use Rattle.tv_class_integers.specs.Powers.{magnitude, power_of, added}
+use Rattle.tv_laws_katz.proofs.Units.{unit-one, unit-none}
+use Rattle.tv_class_integers.specs.Powers.{power_of, added}
 
 pub choose-mirror : (n a b : ℕ) → n ≡ a + b → choose n a ≡ choose n b
 unfolding choose

@@ -7,7 +7,7 @@
 -- read-none, read-more, read-all  no integer yet, one integer more, and all
 -- value-is           the next integer from numbers that were read
 -- wide-value, fault-power  a number that is too wide on the way to an integer, or to a power with it, is so by the sizes
-use Rattle.std.specs.Prelude.{◌≡◌, ◌⊎◌, ℕ, zero, suc, ◌+◌, ◌-◌, ◌<◌, ◌≤◌, ℤ, pos, ◌+ℤ◌, ◌-ℤ◌, ◌*ℤ◌, unsigned_abs, List, [], ◌∷◌, ◌++◌, length, reverse}
+use Rattle.std.specs.Prelude.{◌≡◌, ℕ, zero, suc, ◌+◌, ◌-◌, ◌<◌, ◌≤◌, ℤ, pos, ◌+ℤ◌, ◌-ℤ◌, ◌*ℤ◌, unsigned_abs, List, [], ◌∷◌, ◌++◌, length, reverse}
 use Rattle.std.proofs.Common.{refl, sym, ap, arith, ◌∙◌}
 use Rattle.std.proofs.lemmas.Int.{ints}
 use Rattle.std.proofs.lemmas.List.{reverse-append}
@@ -18,7 +18,7 @@ use Rattle.tv_recurrence.specs.declared.fault.RowFault.{RowFault}
 use Rattle.tv_recurrence.specs.declared.fault.RowFault.TheVariants.{Wide, Memory}
 use Rattle.tv_class_integers.specs.Powers.{added}
 use Rattle.tv_class_integers.specs.Rows.{IsRow, IsTooWideAt}
-use Rattle.tv_class_integers.specs.Readings.{genus_at, power_sum, power_size, product_at, sign_at, next_value, readings, all_readings, size_at, IsReading}
+use Rattle.tv_class_integers.specs.Readings.{genus_at, power_sum, power_size, sign_at, next_value, readings, all_readings, size_at, IsReading}
 
 pub length-readings : (base : ℕ) (S R : ℕ → ℤ) (n : ℕ) → length (readings base S R n) ≡ n
 unfolding readings

@@ -13,7 +13,7 @@
 -- size_at base S R xs t == the sizes of the series, of the product before and of all powers at the weight t
 -- IsReading base n S R values powers == values are all the integers, in the order in which they were read, and powers the first
 --                       n of the powers that they add together
-use Rattle.std.specs.Prelude.{◌≡◌, ℕ, zero, suc, ◌+◌, ◌-◌, ◌<◌, ℤ, pos, ◌+ℤ◌, ◌-ℤ◌, ◌*ℤ◌, unsigned_abs, List, [], ◌∷◌, length, reverse}
+use Rattle.std.specs.Prelude.{◌≡◌, ℕ, zero, suc, ◌+◌, ◌-◌, ℤ, pos, ◌+ℤ◌, ◌-ℤ◌, ◌*ℤ◌, unsigned_abs, List, [], ◌∷◌, length, reverse}
 use Rattle.tv_spec_katz.specs.Binomials.{power_sign}
 use Rattle.tv_class_integers.specs.Powers.{added}
 use Rattle.tv_class_integers.specs.Rows.{IsRow}

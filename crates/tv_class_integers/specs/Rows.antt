@@ -3,7 +3,7 @@
 -- pair_sums x row    == each entry with the one before it added; before the first stands x
 -- IsRow n f row      == the row has n entries, f t at t
 -- IsTooWideAt n size fault == where the fault is Wide, it names an entry below n with a size over the limit
-use Rattle.std.specs.Prelude.{◌≡◌, ℕ, ◌<◌, ℤ, pos, ◌+ℤ◌, List, [], ◌∷◌, length}
+use Rattle.std.specs.Prelude.{◌≡◌, ℕ, ◌<◌, ℤ, ◌+ℤ◌, List, [], ◌∷◌, length}
 use Rattle.tv_ring.specs.Operations.{limit}
 use Rattle.tv_ring.specs.Whole.{wholes}
 use Rattle.tv_ring.specs.Sums.{at}

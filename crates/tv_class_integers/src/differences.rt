@@ -21,7 +21,12 @@ pub struct Difference {
 }
 
 /// The first weight below the end at which the series and the product differ.
-pub fn first_difference(base: usize, end: usize, series: &[Whole], product: &[Whole]) -> Option<Difference>
+pub fn first_difference(
+    base: usize,
+    end: usize,
+    series: &[Whole],
+    product: &[Whole],
+) -> Option<Difference>
     requires count { length series.now ≡ length product.now }
     requires room { end ≤ length product.now }
     requires short { length product.now < 2 ^ 31 }

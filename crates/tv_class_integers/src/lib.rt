@@ -3,19 +3,19 @@
 #![tactic(auto)]
 
 mod differences;
+mod gathered;
 pub mod laws;
 mod magnitudes;
 mod products;
 mod raised;
 mod reading;
 mod signs;
-mod gathered;
 mod values;
 
 pub use differences::{Difference, first_difference};
+pub use gathered::gathered_powers;
 pub use products::product_row;
 pub use reading::{Reading, read};
-pub use gathered::gathered_powers;
 
 #[cfg(test)]
 mod tests;

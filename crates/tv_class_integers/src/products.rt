@@ -12,7 +12,11 @@ use tv_ring::Whole;
 
 /// The product over earlier classes less the powers of this class. Wide, with the weight, only where both sizes are together
 /// over 2^127 - 1.
-pub fn product_row(alloc: Global, product: &[Whole], powers: &[Whole]) -> Result<Vec<Whole>, RowFault>
+pub fn product_row(
+    alloc: Global,
+    product: &[Whole],
+    powers: &[Whole],
+) -> Result<Vec<Whole>, RowFault>
     requires count { length powers.now ≡ length product.now }
     ensures value { IfOk result (λ row. IsRow (length product.now) (λ t. at wholes product.now t -ℤ at wholes powers.now t) row.items) }
     ensures wide { IfErr result (IsTooWideAt (length product.now) (λ t. unsigned_abs (at wholes product.now t) + unsigned_abs (at wholes powers.now t))) }

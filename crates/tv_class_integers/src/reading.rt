@@ -52,7 +52,13 @@ pub fn read(
     let mut powers = zeros(alloc, product.len())?;
     let mut values = Vec::with_capacity(alloc, base + 2)?;
     for weight in 0..base + 2 {
-        match value_at(base, weight, &series[weight], &product[weight], &powers[weight]) {
+        match value_at(
+            base,
+            weight,
+            &series[weight],
+            &product[weight],
+            &powers[weight],
+        ) {
             Ok(value) => {
                 match with_integer(alloc, powers, weight, base + 1 - weight, &value) {
                     Ok(next) => powers = next,

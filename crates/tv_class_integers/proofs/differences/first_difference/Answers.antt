@@ -1,7 +1,5 @@
-use Rattle.std.proofs.Common.{◌≡◌, ◌+◌, ◌*ℤ◌, ◌∙◌, ap, sym, arith, below_more, false, true}
+use Rattle.std.proofs.Common.{◌≡◌, ◌*ℤ◌, ◌∙◌, ap, sym, arith, below_more, true}
 use Rattle.tv_ring.specs.Whole.{wholes}
-use Rattle.tv_ring.specs.Sums.{at}
-use Rattle.tv_spec_katz.specs.Binomials.{power_sign}
 use Rattle.tv_laws_series.proofs.Listed.{at_read}
 use Rattle.tv_class_integers.specs.Readings.{sign_at}
 use Rattle.tv_class_integers.proofs.differences.first_difference.Goals as goal

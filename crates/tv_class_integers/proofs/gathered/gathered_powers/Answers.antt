@@ -1,8 +1,8 @@
-use Rattle.std.proofs.Common.{◌≡◌, sym, refl, ◌∙◌, List, [], ◌∷◌, ◌++◌, pos}
+use Rattle.std.proofs.Common.{◌≡◌, sym, refl, ◌∙◌, [], ◌∷◌, ◌++◌, pos}
 use Rattle.tv_ring.specs.Whole.{wholes}
 use Rattle.tv_ring.specs.Sums.{at}
 use Rattle.tv_laws_series.proofs.Listed.{at_read}
-use Rattle.tv_class_integers.proofs.GatheredPowers.{IsListedTo, listed-none, listed-same, listed-more, listed-powers}
+use Rattle.tv_class_integers.proofs.GatheredPowers.{listed-none, listed-same, listed-more, listed-powers}
 use Rattle.tv_class_integers.proofs.gathered.gathered_powers.Goals as goal
 use Rattle.tv_class_integers.proofs.gathered.gathered_powers.Goals.{then-not-same+in_ok-push, else-not-same}
 

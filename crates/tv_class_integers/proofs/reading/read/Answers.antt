@@ -1,4 +1,4 @@
-use Rattle.std.proofs.Common.{◌≡◌, ap, sym, Err, ◌∙◌, arith, length, ◌<◌}
+use Rattle.std.proofs.Common.{ap, Err, ◌∙◌, arith, length, ◌<◌}
 use Rattle.tv_ring.specs.Whole.{wholes}
 use Rattle.tv_ring.specs.Sums.{at}
 use Rattle.tv_laws_series.proofs.Listed.{at_read}
