@@ -3,25 +3,29 @@
 -- sum-first         a sum of terms of at least 0 is at least the first one
 -- product-front     more factors without sign make the product greater
 -- absolute-more     so do more integers
+-- bound_is_majorant  so is what degree times the product without signs bounds
 -- size_is_majorant  the law
-use Rattle.std.specs.Prelude.{◌≡◌, ℕ, zero, suc, ◌+◌, ◌*◌, ◌≤◌, ℤ, pos, neg_ℤ, ◌+ℤ◌, ◌*ℤ◌, ◌≤ℤ◌, ◌<ℤ◌, unsigned_abs, int_le, nat_eq, true, false, List, [], ◌∷◌, ◌++◌, length, map}
+use Rattle.std.specs.Prelude.{◌≡◌, ◌⊎◌, ℕ, zero, suc, ◌+◌, ◌*◌, ◌<◌, ◌≤◌, ℤ, pos, negsuc, neg_ℤ, ◌+ℤ◌, ◌-ℤ◌, ◌*ℤ◌, ◌≤ℤ◌, ◌<ℤ◌, unsigned_abs, int_le, nat_eq, true, false, List, [], ◌∷◌, ◌++◌, length, map}
 use Rattle.std.specs.List.{AllByRecursion}
-use Rattle.std.proofs.Common.{refl, sym, ap, arith, ◌∙◌}
+use Rattle.std.proofs.Common.{refl, sym, ap, arith, ◌∙◌, inl, inr}
 use Rattle.std.proofs.Math.IntN.{*ℤ-zero}
 use Rattle.std.proofs.lemmas.Int.{ints, by_lt_z}
+use Rattle.std.proofs.lemmas.List.{map-append}
 use Rattle.std.proofs.lemmas.Bool.Decides.{nat_tests}
+use Rattle.tv_ring.specs.Operations.{limit}
 use Rattle.tv_ring.specs.Whole.{wholes}
 use Rattle.tv_lemmas.specs.Naturals.{as_natural}
 use Rattle.tv_lemmas.proofs.Naturals.{as_natural-is, as_natural-above}
 use Rattle.tv_lemmas.proofs.Multiplied.{one-mul}
 use Rattle.tv_lemmas.proofs.Signs.{mul-nonneg-nonneg}
 use Rattle.tv_spec_plane.specs.Web.{degree_of}
+use Rattle.tv_lemmas.proofs.Integers.{mul-sub}
 use Rattle.tv_spec_series.specs.Families.{Family, coefficient_of}
 use Rattle.tv_spec_katz.specs.Binomials.{choose, binomial, power_sign, power_at, sum_below}
 use Rattle.tv_spec_katz.specs.Places.{Place, place, difference_by}
 use Rattle.tv_spec_katz.specs.Product.{Factor, times, product}
 use Rattle.tv_spec_katz.specs.Katz.{Integer, factors_by, factors, katz}
-use Rattle.tv_spec_katz.specs.Majorant.{without_sign, absolute_product, counted, majorant_end, is_counted_class, bound_at, majorant}
+use Rattle.tv_spec_katz.specs.Majorant.{without_sign, absolute_product, counted, majorant_end, is_counted_class, has_majorant, bound_at, majorant}
 use Rattle.tv_laws_katz.specs.Weights.{weight, IsWithinSlope}
 use Rattle.tv_laws_katz.proofs.LargerBound.{product-absolute}
 use Rattle.tv_laws_katz.proofs.Powers.{power_at-zero, power_at-negsuc, power_sign-size}
@@ -30,7 +34,8 @@ use Rattle.tv_laws_integers.specs.Closed.{IsClassTo}
 use Rattle.tv_laws_integers.proofs.Slopes.{slopes-least}
 use Rattle.tv_recurrence.specs.KatzParts.{katz_by_weight}
 use Rattle.tv_recurrence.specs.Products.{exponent_at}
-use Rattle.tv_class_integers.specs.NextClasses.{series_by_weight, class_readings, read_onto, SizeIsMajorant}
+use Rattle.tv_class_integers.specs.Readings.{readings, power_size, size_at}
+use Rattle.tv_class_integers.specs.NextClasses.{series_by_weight, class_readings, read_onto, IsNextClass, IsLastOf, SizeIsMajorant}
 use Rattle.tv_class_integers.proofs.FirstOrder.{first_order_sizes}
 use Rattle.tv_class_integers.proofs.NextClass.{at-base, slopes}
 use Rattle.tv_class_integers.proofs.Readings.{length-readings}
@@ -137,3 +142,37 @@ size_is_majorant D N f w read is v base more t next last far wide =
     let ends : n ≤ℤ majorant_end D N f final = omega (arith, ints) in
     rw (majorant-is D N f final v n next.class ends)
     (omega (arith, ints, counted-is f N v n (last.known n), twice-least d A positive))
+
+scale-most : (d a : ℕ) (z : ℤ) → z ≤ℤ pos a → (pos d *ℤ z) ≤ℤ pos (d * a)
+scale-most d a z h =
+    let up : pos 0 ≤ℤ (pos d *ℤ (pos a -ℤ z)) = mul-nonneg-nonneg (pos d) (pos a -ℤ z) (omega (arith, ints)) (omega (arith, ints)) in
+    omega (arith, ints, mul-sub (pos d) (pos a) z)
+
+twice-scaled : (d a : ℕ) → d * a ≤ (2 * d) * a
+twice-scaled d a = omega arith
+
+-- a number that degree times the product without signs bounds
+pub bound_is_majorant : (D : ℕ) (N : ℤ) (f : Family ℤ) (w : ℕ) (read : List (List ℤ)) (is : List Integer) (v : List ℤ) (base : ℕ)
+    (more : List Integer) (t x : ℕ) → IsNextClass D f w read is v base → IsLastOf D N f w is v base more →
+    pos t ≤ℤ (N +ℤ pos (w * D)) → pos x ≤ℤ (degree_of f.heights v *ℤ absolute_product f.heights is v (exponent_at f.heights w v t)) →
+    limit < x → limit < majorant D N f (more ++ read_onto f w base is v) v (exponent_at f.heights w v t)
+bound_is_majorant D N f w read is v base more t x next last far bound wide =
+    let hs = f.heights in let n = exponent_at hs w v t in
+    let all = read_onto f w base is v in let final = more ++ all in
+    let numbers = class_readings f w base is v in
+    let here = at-base D f w read is v base next in
+    let within = slopes-least D hs w final last.ordered (omega (arith, last.slope)) in
+    let count = length-readings base (series_by_weight f w v) (katz_by_weight hs w is v) (base + 2) in
+    let sizes = first_order_sizes hs w v base is numbers t here (slopes D f w read is v base next) (omega arith) in
+    let later = absolute-more hs w more all v n within in
+    let A = unsigned_abs (absolute_product hs final v n) in
+    let up = next.class.positive.degree in
+    let d = as_natural (degree_of hs v) in
+    let degree = as_natural-is (degree_of hs v) (omega (arith, ints)) in
+    let least : absolute_product hs is v n ≤ℤ pos A = omega (arith, ints) in
+    let scaled : pos x ≤ℤ (pos d *ℤ absolute_product hs is v n) = rw (← degree) bound in
+    let place = next.place in
+    let slope : N +ℤ pos (w * D) ≡ majorant_end D N f final = ap (λ c. N +ℤ pos (c * D)) (sym last.slope) in
+    let ends : n ≤ℤ majorant_end D N f final = omega (arith, ints) in
+    rw (majorant-is D N f final v n next.class ends)
+    (omega (arith, ints, scale-most d A (absolute_product hs is v n) least, twice-scaled d A))

@@ -59,12 +59,12 @@ find-cases P v (l ∷ ls) all = elim (cases_Bool (same_vector l.class v)) as (λ
       elim (find-cases P v ls all.1) as (λ _. IsFound P v (l ∷ ls) ⊎ IsAbsent v (l ∷ ls)) [
         | inl found ↦ inl (record { line = found.line; holds = found.holds; class = found.class; row = find-later v l ls other ∙ found.row })
         | inr absent ↦ inr (record {
-            row = find-later v l ls other ∙ absent.row;
-            none = λ h. elim (contains-cases v l.class (map (λ (k : ReadClass). k.class) ls) h) as (λ _. ⊥) [
-              | inl same ↦ other same
-              | inr later ↦ absent.none later
-            ];
-          })
+          row = find-later v l ls other ∙ absent.row;
+          none = λ h. elim (contains-cases v l.class (map (λ (k : ReadClass). k.class) ls) h) as (λ _. ⊥) [
+            | inl same ↦ other same
+            | inr later ↦ absent.none later
+          ];
+        })
       ]
 ]
 

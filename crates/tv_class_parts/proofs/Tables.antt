@@ -104,9 +104,11 @@ module _ (D : ℕ) (f : Family ℤ) (vs : List (List ℤ)) (closed : IsClosedLis
 distinct-rises : (hs : List ℤ) (vs : List (List ℤ)) → ClassesRise hs vs → IsDistinct same_vector vs
 unfolding IsDistinct
 distinct-rises hs [] rises = tt
-distinct-rises hs (u ∷ vs) rises =
-    (all-onto (IsBefore hs u) (λ y. same_vector u y ≡ false) (λ y b. same_vector-other u y (before_apart hs u y b)) vs
-    (first_before hs u vs rises), distinct-rises hs vs (rise_tail hs u vs rises))
+distinct-rises hs (u ∷ vs) rises = (
+  all-onto (IsBefore hs u) (λ y. same_vector u y ≡ false) (λ y b. same_vector-other u y (before_apart hs u y b)) vs
+      (first_before hs u vs rises),
+  distinct-rises hs vs (rise_tail hs u vs rises),
+)
 
 distinct-front : (us vs : List (List ℤ)) → IsDistinct same_vector (us ++ vs) → IsDistinct same_vector us
 unfolding IsDistinct
@@ -242,7 +244,7 @@ tail-classes : (ls : List ReadClass) (z : List ℤ) (read : List (List ℤ)) →
 tail-classes [] z read e = cc
 tail-classes (l ∷ ls) z read e = cc
 
-tail-each : (P : ReadClass → Type 0) (ls : List ReadClass) → AllByRecursion P ls → AllByRecursion P (drop 1 ls)
+pub tail-each : (P : ReadClass → Type 0) (ls : List ReadClass) → AllByRecursion P ls → AllByRecursion P (drop 1 ls)
 tail-each P [] all = tt
 tail-each P (l ∷ ls) all = all.1
 

@@ -3,12 +3,15 @@
 #![tactic(auto)]
 
 mod addends;
+mod fault;
 pub mod laws;
 mod line;
 mod lookup;
+mod numbers;
+mod product;
+mod read;
 
 pub use addends::parts;
+pub use fault::ClassFault;
 pub use line::Line;
-
-#[cfg(test)]
-mod tests;
+pub use read::{ClassRead, read_class};

@@ -19,7 +19,7 @@ returns-then-sum-entry c =
       value = (
         (λ t. cc),
         (λ same. let here = is-after j c.args.left.now c.args.class.now c.args.part.now c.requires.part_length same k in
-        absurd (omega (arith, ints))),
+            absurd (omega (arith, ints))),
       );
     }
 
@@ -36,7 +36,7 @@ returns-then-entry-sum c =
       value = (
         (λ t. cc),
         (λ same. let here = is-after j c.args.left.now c.args.class.now c.args.part.now c.requires.part_length same k in
-        absurd (omega (arith, ints))),
+            absurd (omega (arith, ints))),
       );
     }
 

@@ -1,1 +1,0 @@
-//! Each public call once.
