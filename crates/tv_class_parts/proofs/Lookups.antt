@@ -48,7 +48,8 @@ pub record IsAbsent (v : List ℤ) (ls : List ReadClass) : Type 0 where
   pub row : find_row v ls ≡ []
   pub none : Contains (map (λ (l : ReadClass). l.class) ls) v → ⊥
 
-pub find-cases : (P : ReadClass → Type 0) (v : List ℤ) (ls : List ReadClass) → AllByRecursion P ls → IsFound P v ls ⊎ IsAbsent v ls
+pub find-cases : (P : ReadClass → Type 0) (v : List ℤ) (ls : List ReadClass) → AllByRecursion P ls →
+    IsFound P v ls ⊎ IsAbsent v ls
 find-cases P v [] all = inr (record { row = refl; none = λ h. let none = h.1 in omega arith })
 find-cases P v (l ∷ ls) all = elim (cases_Bool (same_vector l.class v)) as (λ _. IsFound P v (l ∷ ls) ⊎ IsAbsent v (l ∷ ls)) [
   | inl on ↦
@@ -74,7 +75,8 @@ rows-none g F xs e = ap (map g) e ∙ sym (listed-none F)
 pub rows-more : {A : Type 0} (g : A → List ℤ) (F : ℕ → List ℤ) (n : ℕ) (xs next : List A) (x : A) → map g xs ≡ listed F n →
     next ≡ xs ++ x ∷ [] → g x ≡ F n → map g next ≡ listed F (n + 1)
 rows-more g F n xs next x was e here =
-    ap (map g) e ∙ (map-append g xs (x ∷ []) ∙ (ap (λ r. r ++ g x ∷ []) was ∙ (ap (λ r. listed F n ++ r ∷ []) here ∙ sym (listed-more F n))))
+    ap (map g) e ∙ (map-append g xs (x ∷ []) ∙ (ap (λ r. r ++ g x ∷ []) was ∙ (ap (λ r. listed F n ++ r ∷ []) here ∙
+        sym (listed-more F n))))
 
 -- what a loop has made of a list, with what is left
 pub mapped-more : {A B : Type 0} (g : A → B) (ls : List A) (i : ℕ) (l : A) (xs next : List B) (x : B) →

@@ -29,19 +29,22 @@ module _ (base end n : ℕ) (S R : ℕ → ℤ) where
   abbrev P : ℕ → ℤ
   P = product_at base R all
 
-  pub fault-of-reading : (fault : RowFault) → IsTooWideAt n (size_at base S R all) fault → IsNumbersFault base end n S R (of_row fault)
+  pub fault-of-reading : (fault : RowFault) → IsTooWideAt n (size_at base S R all) fault →
+      IsNumbersFault base end n S R (of_row fault)
   fault-of-reading (Wide t) wide = wide
   fault-of-reading Memory wide = tt
 
   pub fault-of-product : (powers : List ℤ) → IsRow n (power_sum base all) powers → (fault : RowFault) →
-      IsTooWideAt n (λ t. unsigned_abs (R t) + unsigned_abs (at wholes powers t)) fault → IsNumbersFault base end n S R (of_row fault)
+      IsTooWideAt n (λ t. unsigned_abs (R t) + unsigned_abs (at wholes powers t)) fault →
+          IsNumbersFault base end n S R (of_row fault)
   fault-of-product powers row (Wide t) wide =
       let within = wide.0 in
       let small = power_sum-size base all t in
       (within, omega (arith, wide.1, ap unsigned_abs (row.each t within)))
   fault-of-product powers row Memory wide = tt
 
-  pub product-row : (powers row : List ℤ) → IsRow n (power_sum base all) powers → IsRow n (λ t. R t -ℤ at wholes powers t) row → IsRow n P row
+  pub product-row : (powers row : List ℤ) → IsRow n (power_sum base all) powers →
+      IsRow n (λ t. R t -ℤ at wholes powers t) row → IsRow n P row
   product-row powers row gathered was = record {
     count = was.count;
     each = λ t h. was.each t h ∙ ap (λ z. R t -ℤ z) (gathered.each t h);
@@ -50,7 +53,8 @@ module _ (base end n : ℕ) (S R : ℕ → ℤ) where
   pub agree-of : (row : List ℤ) → IsRow n P row → (m : ℕ) → m ≤ n → AgreeBelow base S (at wholes row) m → AgreeBelow base S P m
   agree-of row was m h agree t l = agree t l ∙ ap (λ z. sign_at base t *ℤ z) (was.each t (omega arith))
 
-  pub difference-of : (row : List ℤ) → IsRow n P row → end ≤ n → (d : Difference) → IsFirstDifference base S (at wholes row) end d →
+  pub difference-of : (row : List ℤ) → IsRow n P row → end ≤ n → (d : Difference) →
+      IsFirstDifference base S (at wholes row) end d →
       IsFirstDifference base S P end d
   difference-of row was h d first =
       let within = first.within in
@@ -62,7 +66,8 @@ module _ (base end n : ℕ) (S R : ℕ → ℤ) where
         differ = first.differ;
       }
 
-  pub numbers-of : (values powers row : List ℤ) (list : List Power) → IsReading base n S R values powers → IsRow n P row → end ≤ n →
+  pub numbers-of : (values powers row : List ℤ) (list : List Power) → IsReading base n S R values powers → IsRow n P row →
+      end ≤ n →
       AgreeBelow base S (at wholes row) end → ((s : ℕ) → power_by list s ≡ at wholes powers s) → IsDistinct same_step list →
       IsNumbers base end n S R values row list
   numbers-of values powers row list reading was h agree same once = record {

@@ -111,7 +111,8 @@ module _ (D : ℕ) (N : ℤ) (f : Family ℤ) (w T : ℕ) (read back : List (Lis
   begun-after' = class_is_read D f w read is v base next-of
 
   goes : GoesOn D f (read ++ v ∷ []) back is'
-  goes = integers_go_on D f (read ++ v ∷ []) back is' (normal_through (pos 1) N f later.way.far later.way.normalized) closed-after begun-after'
+  goes = integers_go_on D f (read ++ v ∷ []) back is' (normal_through
+      (pos 1) N f later.way.far later.way.normalized) closed-after begun-after'
 
   abbrev final : List Integer
   final = read_classes f is' back
@@ -122,7 +123,8 @@ module _ (D : ℕ) (N : ℤ) (f : Family ℤ) (w T : ℕ) (read back : List (Lis
   slope-is : greatest_slope hs final ≡ w
   slope-is =
       let high = (slope_of_series D f final w goes.are).1 later.way.begins in
-      let low = later.way.least (greatest_slope hs final) ((slope_of_series D f final (greatest_slope hs final) goes.are).0 (omega arith)) in
+      let low = later.way.least (greatest_slope hs final) ((slope_of_series D f final (greatest_slope hs final) goes.are).0
+          (omega arith)) in
       omega arith
 
   last-of : IsLastOf D N f w is v base front.more
@@ -140,7 +142,8 @@ module _ (D : ℕ) (N : ℤ) (f : Family ℤ) (w T : ℕ) (read back : List (Lis
   reading-wide t h wide = record { integers = final; are = goes.are; wide = rw front.is wide }
 
   -- the product agrees at each class that was read, and at this one
-  agrees-on : (end : ℕ) → pos end ≡ (N +ℤ pos base) +ℤ pos 1 → AgreeBelow base (series_by_weight f w v) (product_after f w base is v) end →
+  agrees-on : (end : ℕ) → pos end ≡ (N +ℤ pos base) +ℤ pos 1 →
+      AgreeBelow base (series_by_weight f w v) (product_after f w base is v) end →
       AllByRecursion (AgreesThrough N f is') (read ++ v ∷ [])
   agrees-on end e agree = all-append (AgreesThrough N f is') read (v ∷ [])
       (still read later.way.agrees after)
@@ -172,7 +175,8 @@ module _ (D : ℕ) (N : ℤ) (f : Family ℤ) (w T : ℕ) (read back : List (Lis
       let place = later.place in
       let first = difference_is_first D f w read is v base t next-of agree other in
       let among = Contains-append_right read (v ∷ []) v (contains-head v v [] refl) in
-      let seen : IsSeen N f (read ++ v ∷ []) is' v n = record { there = among; within = omega (arith, ints); others = others; before = first.1; differs = first.0 } in
+      let seen : IsSeen N f (read ++ v ∷ []) is' v n = record { there = among; within = omega
+          (arith, ints); others = others; before = first.1; differs = first.0 } in
       let has = mismatch_at D N f (read ++ v ∷ []) back closed-after is' begun-after' v n seen later.way.far later.way.normalized in
       record {
         integers = final;
@@ -196,7 +200,8 @@ steps_on D N f w T read back is v base ls l end later after e agree =
       closed = closed-after D N f w T read back is v base ls later;
       begun = begun-after' D N f w T read back is v base ls later;
       agrees = agrees-on D N f w T read back is v base ls later end e agree;
-      table = table_goes_on D f w T read back is v base ls l (before-of D N f w T read back is v base ls later) later.way.table after;
+      table = table_goes_on D f w T read back is v base ls l
+          (before-of D N f w T read back is v base ls later) later.way.table after;
     }
 
 pub ends_well : EndsWell
@@ -220,7 +225,8 @@ parts_are_wide D N f w T read back is v base ls d t later degree h wide =
     let before = before-of D N f w T read back is v base ls later in
     let katz_parts = parts_are_katz D f w T read back is v base ls d t before later.way.table degree h in
     reading-wide D N f w T read back is v base ls later t h
-    (bound_is_majorant D N f w read is v base (front D N f w T read back is v base ls later).more t (parts_size t (parts_of ls v d))
+    (bound_is_majorant D N f w read is v base (front D N f w T read back is v base ls later).more t (parts_size t
+        (parts_of ls v d))
     (next-of D N f w T read back is v base ls later) (last-of D N f w T read back is v base ls later)
     (room D N f w T read back is v base ls later t h)
     (sizes_of_katz_parts f.heights w D T is v t read (parts_of ls v d) katz_parts) wide)

@@ -79,11 +79,13 @@ HasPlace vs v = (is_zero_class v ≡ true) ⊎ Contains vs v
 
 module _ (D : ℕ) (f : Family ℤ) (vs : List (List ℤ)) (closed : IsClosedList D f vs) where
   same_length : (i : Integer) → IsListed vs i → (v : List ℤ) → length v ≡ length f.heights → length v ≡ length i.class
-  same_length i listed v entries = entries ∙ sym (all-contains (IsClassTo D f.heights) vs i.class closed.each listed).positive.entries
+  same_length i listed v entries = entries ∙
+      sym (all-contains (IsClassTo D f.heights) vs i.class closed.each listed).positive.entries
 
   with_listed : (i : Integer) → IsListed vs i → (v : List ℤ) → length v ≡ length f.heights → degree_of f.heights v ≤ℤ pos D
       → HasPlace vs (class_difference v i.class) → HasPlace vs v
-  with_listed i listed v entries within (inl none) = inr (rw (zero-difference v i.class (same_length i listed v entries) none) listed)
+  with_listed i listed v entries within (inl none) = inr (rw (zero-difference v i.class
+      (same_length i listed v entries) none) listed)
   with_listed i listed v entries within (inr other) =
       let back = plus-difference v i.class (same_length i listed v entries) in
       inr (rw back at (closed.sums (class_difference v i.class) i.class other listed (rw back within)))
@@ -123,7 +125,8 @@ before-degree : (hs u v : List ℤ) → IsBefore hs u v → degree_of hs u ≤�
 before-degree hs u v (inl less) = omega (arith, ints)
 before-degree hs u v (inr same) = omega (arith, ints, same.0)
 
-all-unmap : {A B : Type 0} (P : B → Type 0) (g : A → B) (xs : List A) → AllByRecursion P (map g xs) → AllByRecursion (λ x. P (g x)) xs
+all-unmap : {A B : Type 0} (P : B → Type 0) (g : A → B) (xs : List A) → AllByRecursion P (map g xs) →
+    AllByRecursion (λ x. P (g x)) xs
 all-unmap P g [] all = tt
 all-unmap P g (x ∷ xs) all = (all.0, all-unmap P g xs all.1)
 
@@ -144,19 +147,23 @@ module _ (D : ℕ) (f : Family ℤ) (w T : ℕ) (read back : List (List ℤ)) (i
   vs = read ++ v ∷ back
 
   all-listed : AllByRecursion (IsListed vs) is
-  all-listed = all-onto (IsListed read) (IsListed vs) (λ i there. Contains-append_left read (v ∷ back) i.class there) is before.next.begun.listed
+  all-listed = all-onto (IsListed read) (IsListed vs) (λ i there. Contains-append_left read
+      (v ∷ back) i.class there) is before.next.begun.listed
 
   not-later : (u : List ℤ) → degree_of hs u <ℤ degree_of hs v → Contains (v ∷ back) u → ⊥
   not-later u less there = elim (contains-cases u v back there) as (λ _. ⊥) [
     | inl same ↦ absurd (let e = ap (degree_of hs) same in omega (arith, ints))
     | inr later ↦
-        let order = all-contains (IsBefore hs v) back u (first_before hs v back (rises-back hs read (v ∷ back) before.closed.rises)) later in
+        let order = all-contains (IsBefore hs v) back u (first_before hs v back (rises-back hs read
+            (v ∷ back) before.closed.rises)) later in
         absurd (omega (arith, ints, before-degree hs v u order))
   ]
 
-  no-place : (u : List ℤ) → length u ≡ length hs → degree_of hs u <ℤ degree_of hs v → (Contains (zeros (length hs) ∷ read) u → ⊥) →
+  no-place : (u : List ℤ) → length u ≡ length hs → degree_of hs u <ℤ degree_of hs v →
+      (Contains (zeros (length hs) ∷ read) u → ⊥) →
       HasPlace vs u → ⊥
-  no-place u entries less none (inl none_of) = none (contains-head u (zeros (length hs)) read (sym (zero_class_is u none_of ∙ ap zeros entries)))
+  no-place u entries less none (inl none_of) = none (contains-head u (zeros (length hs)) read (sym (zero_class_is u none_of ∙
+      ap zeros entries)))
   no-place u entries less none (inr there) = elim (Contains-append_cases read (v ∷ back) u there) as (λ _. ⊥) [
     | inl front ↦ none (contains-later u (zeros (length hs)) read front)
     | inr later ↦ not-later u less later
@@ -170,7 +177,8 @@ module _ (D : ℕ) (f : Family ℤ) (w T : ℕ) (read back : List (List ℤ)) (i
 
   found-katz : (u : List ℤ) (s : ℕ) → s ≤ T → length u ≡ length hs → degree_of hs u <ℤ degree_of hs v →
       at wholes (find_row u ls) s ≡ katz_by_weight hs w is u s
-  found-katz u s h entries less = elim (find-cases (IsReadClass hs w T is) u ls table.each) as (λ _. at wholes (find_row u ls) s ≡ katz_by_weight hs w is u s) [
+  found-katz u s h entries less = elim (find-cases (IsReadClass hs w T is) u ls table.each) as (λ _. at wholes
+      (find_row u ls) s ≡ katz_by_weight hs w is u s) [
     | inl found ↦
         ap (λ r. at wholes r s) found.row ∙ (found.holds.coefficients s h ∙ ap (λ x. katz_by_weight hs w is x s) found.class)
     | inr absent ↦
@@ -183,7 +191,8 @@ module _ (D : ℕ) (f : Family ℤ) (w T : ℕ) (read back : List (List ℤ)) (i
   below-none u s less =
       let n = exponent_at hs w u s in
       signed-none (power_sign (unsigned_abs n)) (katz hs is u n)
-      (unit_below_one hs is u n (omega (arith, ints)) ∙ unit-none (place hs u n) (λ is_unit. let e = is_unit.degree in absurd (omega (arith, ints))))
+      (unit_below_one hs is u n (omega (arith, ints)) ∙ unit-none (place hs u n) (λ is_unit. let e = is_unit.degree in
+          absurd (omega (arith, ints))))
 
   -- ---- what one class adds
   module _ (d : ℕ) (degree : pos d ≡ degree_of hs v) (l : ReadClass) (line : IsReadClass hs w T is l) (up : 0 < l.degree) where
@@ -193,16 +202,20 @@ module _ (D : ℕ) (f : Family ℤ) (w T : ℕ) (read back : List (List ℤ)) (i
     left : (j : ℕ) → degree_of hs (class_after (suc j) v l.class) ≡ pos d -ℤ pos (suc j * l.degree)
     left j =
         degree-after hs (suc j) v l.class before.next.class.positive.entries line.entries ∙
-        (ap (λ z. z -ℤ (pos (suc j) *ℤ degree_of hs l.class)) (sym degree) ∙ ap (λ z. pos d -ℤ (pos (suc j) *ℤ z)) (sym line.degree))
+        (ap (λ z. z -ℤ (pos (suc j) *ℤ degree_of hs l.class)) (sym degree) ∙
+            ap (λ z. pos d -ℤ (pos (suc j) *ℤ z)) (sym line.degree))
 
-    row-is : (j s : ℕ) → s ≤ T → at wholes (row_at (part_rows ls v l.class (d / l.degree)) j) s ≡ katz_by_weight hs w is (class_after (suc j) v l.class) s
+    row-is : (j s : ℕ) → s ≤ T → at wholes (row_at (part_rows ls v l.class (d / l.degree)) j) s ≡ katz_by_weight hs w is
+        (class_after (suc j) v l.class) s
     unfolding listed
     row-is j s h = elim (cases_lt j (d / l.degree)) [
       | inl within ↦
-          let row : row_at (part_rows ls v l.class (d / l.degree)) j ≡ F j = get_or-map-range_with_len F 0 (d / l.degree) j j [] within (omega arith) in
+          let row : row_at (part_rows ls v l.class (d / l.degree)) j ≡ F j = get_or-map-range_with_len F 0
+              (d / l.degree) j j [] within (omega arith) in
           let count = length-after (suc j) v l.class in
           let entries = before.next.class.positive.entries in
-          let less : degree_of hs (class_after (suc j) v l.class) <ℤ degree_of hs v = omega (arith, ints, left j, degree, positive-times j) in
+          let less : degree_of hs (class_after (suc j) v l.class) <ℤ degree_of hs v = omega
+              (arith, ints, left j, degree, positive-times j) in
           ap (λ r. at wholes r s) row ∙ found-katz (class_after (suc j) v l.class) s h (count ∙ entries) less
       | inr past ↦
           let row : row_at (part_rows ls v l.class (d / l.degree)) j ≡ [] =
@@ -235,7 +248,8 @@ module _ (D : ℕ) (f : Family ℤ) (w T : ℕ) (read back : List (List ℤ)) (i
 
   are-parts : (d : ℕ) → pos d ≡ degree_of hs v → (rest : List ReadClass) → AllByRecursion (IsReadClass hs w T is) rest →
       AllByRecursion (λ (l : ReadClass). 0 < l.degree) rest →
-      ArePartsOf hs w D T (factors hs T is) (katz_by_weight hs w is) v (map (λ (l : ReadClass). l.class) rest) (map (part_of ls v d) rest)
+      ArePartsOf hs w D T (factors hs T is) (katz_by_weight hs w is) v (map (λ (l : ReadClass). l.class) rest) (map
+          (part_of ls v d) rest)
   are-parts d degree [] each up = tt
   are-parts d degree (l ∷ rest) each up = (part-is d degree l each.0 up.0, are-parts d degree rest each.1 up.1)
 
@@ -249,7 +263,8 @@ tail-each P [] all = tt
 tail-each P (l ∷ ls) all = all.1
 
 pub positive-tail : (D : ℕ) (hs : List ℤ) (w T : ℕ) (read : List (List ℤ)) (is : List Integer) (ls : List ReadClass) →
-    AllByRecursion (IsClassTo D hs) read → IsTable hs w T read is ls → AllByRecursion (λ (l : ReadClass). 0 < l.degree) (drop 1 ls)
+    AllByRecursion (IsClassTo D hs) read → IsTable hs w T read is ls →
+        AllByRecursion (λ (l : ReadClass). 0 < l.degree) (drop 1 ls)
 positive-tail D hs w T read is ls each table =
     let rest = tail-classes ls (zeros (length hs)) read table.classes in
     all-both (IsReadClass hs w T is) (λ l. IsClassTo D hs l.class) (λ l. 0 < l.degree)
@@ -290,7 +305,8 @@ module _ (D : ℕ) (f : Family ℤ) (w T : ℕ) (read back : List (List ℤ)) (i
       let up = before.next.class.positive.degree in let none = degree_zero hs' (length hs') in inl (omega (arith, ints))
 
   all-before : AllByRecursion (λ (k : ReadClass). IsBefore hs' k.class v) ls
-  all-before = all-unmap (λ u. IsBefore hs' u v) (λ (k : ReadClass). k.class) ls (rw table.classes (zero-before, before.next.after))
+  all-before = all-unmap (λ u. IsBefore hs' u v) (λ (k : ReadClass). k.class) ls (rw table.classes
+      (zero-before, before.next.after))
 
   still : (k : ReadClass) → IsReadClass hs' w T is k → IsBefore hs' k.class v → IsReadClass hs' w T is' k
   still k line b = record {

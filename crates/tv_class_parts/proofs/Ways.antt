@@ -50,10 +50,12 @@ readings-same base S S' R R' (suc n) s r =
     let count = length-readings base S' R' n in
     let first : next_value base S R xs ≡ next_value base S' R' xs =
     ap (λ z. z -ℤ (sign_at base (length xs) *ℤ product_at base R xs (length xs))) (s (length xs) (omega arith)) ∙
-    ap (λ z. S' (length xs) -ℤ (sign_at base (length xs) *ℤ (z -ℤ power_sum base xs (length xs)))) (r (length xs) (omega arith)) in
+    ap (λ z. S' (length xs) -ℤ (sign_at base (length xs) *ℤ (z -ℤ power_sum base xs (length xs)))) (r (length xs)
+        (omega arith)) in
     ap (λ ys. next_value base S R ys ∷ ys) rest ∙ ap (λ z. z ∷ xs) first
 
-module _ (g : Way) (v : List ℤ) (base d end : ℕ) (ls : List ReadClass) (series : List ℤ) (given : IsGiven g v base d end ls series) where
+module _ (g : Way) (v : List ℤ) (base d end : ℕ) (ls : List ReadClass) (series : List ℤ)
+    (given : IsGiven g v base d end ls series) where
   abbrev hs : List ℤ
   hs = g.f.heights
 
@@ -113,7 +115,8 @@ module _ (g : Way) (v : List ℤ) (base d end : ℕ) (ls : List ReadClass) (seri
         let count = given.count in
         let before = before-of g.D g.N g.f g.w g.T g.read g.back g.integers v base ls given.later in
         let katz_parts = parts_are_katz g.D g.f g.w g.T g.read g.back g.integers v base ls d t before given.later.way.table given.degree h in
-        coefficient_is_katz hs g.w g.D g.T g.integers v t g.read (parts_of ls v d) d (at wholes product t) katz_parts degree-up given.degree
+        coefficient_is_katz hs g.w g.D g.T g.integers v t g.read (parts_of ls v d) d
+            (at wholes product t) katz_parts degree-up given.degree
         (row.each t (omega arith))
 
     abbrev S' : ℕ → ℤ
@@ -140,7 +143,8 @@ module _ (g : Way) (v : List ℤ) (base d end : ℕ) (ls : List ReadClass) (seri
         ap (λ xs. size_at base S' R' xs t) all-same ∙
         omega (arith, ap unsigned_abs (given.each t h), ap unsigned_abs (product-is t h))
 
-    unequal-on : (d' : Difference) → IsFirstDifference base S' (product_at base R' (all_readings base S' R')) end d' → IsFaultOn g v (Differ d')
+    unequal-on : (d' : Difference) → IsFirstDifference base S' (product_at base R' (all_readings base S' R')) end d' →
+        IsFaultOn g v (Differ d')
     unequal-on d' first =
         let t = d'.weight in
         let within = first.within in let most = given.most in let after = given.after in
@@ -150,7 +154,8 @@ module _ (g : Way) (v : List ℤ) (base d end : ℕ) (ls : List ReadClass) (seri
         let y = first.product ∙ ap (λ z. sign_at base t *ℤ z) (product-same t reach) in
         let seen = difference_is_seen g.D g.N g.f g.w g.T g.read g.back g.integers v base ls t given.later near
         (agree-same t (omega arith) first.before) (λ e. first.differ (x ∙ (e ∙ sym y))) in
-        record { integers = seen.integers; are = seen.are; mismatch = seen.mismatch; family = x ∙ seen.family; katz = y ∙ seen.katz }
+        record { integers = seen.integers; are = seen.are; mismatch = seen.mismatch; family = x ∙ seen.family; katz = y ∙
+            seen.katz }
 
     pub fault-on : (fault : ClassFault) → IsNumbersFault base end (length product) S' R' fault → IsFaultOn g v fault
     fault-on (Wide t) wide =
@@ -161,11 +166,13 @@ module _ (g : Way) (v : List ℤ) (base d end : ℕ) (ls : List ReadClass) (seri
     fault-on (Differ d') first = unequal-on d' first
     fault-on Memory none = tt
 
-    pub read-on : (values line : List ℤ) (powers : List Power) (l : ReadClass) → IsNumbers base end (length product) S' R' values line powers →
+    pub read-on : (values line : List ℤ) (powers : List Power) (l : ReadClass) →
+        IsNumbers base end (length product) S' R' values line powers →
         l ≡ record { class = v; degree = d; row = line; powers = powers } → IsReadOn g v base ls l values
     read-on values line powers l numbers-are e =
         let count = given.count in let rows = row.count in
-        let after : IsAfterClass g.f g.w g.T g.integers v base (record { class = v; degree = d; row = line; powers = powers }) = record {
+        let after : IsAfterClass g.f g.w g.T g.integers v base
+            (record { class = v; degree = d; row = line; powers = powers }) = record {
           class = refl;
           degree = given.degree;
           coefficients = λ t h. numbers-are.product.each t (omega arith) ∙ product-same t h;
@@ -173,7 +180,8 @@ module _ (g : Way) (v : List ℤ) (base d end : ℕ) (ls : List ReadClass) (seri
           once = numbers-are.once;
         } in
         rw e (record {
-          way = steps_on g.D g.N g.f g.w g.T g.read g.back g.integers v base ls (record { class = v; degree = d; row = line; powers = powers }) end
+          way = steps_on g.D g.N g.f g.w g.T g.read g.back g.integers v base ls
+              (record { class = v; degree = d; row = line; powers = powers }) end
               given.later after given.after (agree-same end given.most numbers-are.agree);
           all = numbers-are.all ∙ ap reverse all-same;
         })

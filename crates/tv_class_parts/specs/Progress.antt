@@ -33,7 +33,8 @@ use Rattle.tv_class_integers.specs.NextClasses.{series_by_weight, class_readings
 use Rattle.tv_class_parts.specs.ReadClasses.{ReadClass, parts_of}
 use Rattle.tv_class_parts.specs.Tables.{IsTable, IsAfterClass}
 
-pub record IsUnderWay (D : ℕ) (N : ℤ) (f : Family ℤ) (w T : ℕ) (read back : List (List ℤ)) (is : List Integer) (ls : List ReadClass) : Type 0 where
+pub record IsUnderWay (D : ℕ) (N : ℤ) (f : Family ℤ) (w T : ℕ) (read back : List (List ℤ)) (is : List Integer)
+    (ls : List ReadClass) : Type 0 where
   pub reach : pos T ≡ N +ℤ pos (w * D)
   pub far : pos 1 ≤ℤ N
   pub normalized : IsNormalized N f
@@ -98,4 +99,5 @@ DifferenceIsSeen =
     (ls : List ReadClass) (t : ℕ) → IsLaterRead D N f w T read back is v base ls → pos t ≤ℤ (N +ℤ pos base) →
     AgreeBelow base (series_by_weight f w v) (product_after f w base is v) t →
     series_by_weight f w v t ≢ (sign_at base t *ℤ product_after f w base is v t) →
-    IsUnequalPlace D N f v (exponent_at f.heights w v t) (series_by_weight f w v t) (sign_at base t *ℤ product_after f w base is v t)
+    IsUnequalPlace D N f v (exponent_at f.heights w v t) (series_by_weight f w v t)
+        (sign_at base t *ℤ product_after f w base is v t)

@@ -35,7 +35,8 @@ pub record IsTable (hs : List ℤ) (w T : ℕ) (read : List (List ℤ)) (is : Li
   pub classes : map (λ (l : ReadClass). l.class) ls ≡ zeros (length hs) ∷ read
   pub each : AllByRecursion (IsReadClass hs w T is) ls
 
-pub record IsBeforeClass (D : ℕ) (f : Family ℤ) (w : ℕ) (read back : List (List ℤ)) (is : List Integer) (v : List ℤ) (base : ℕ) : Type 0 where
+pub record IsBeforeClass (D : ℕ) (f : Family ℤ) (w : ℕ) (read back : List (List ℤ)) (is : List Integer) (v : List ℤ)
+    (base : ℕ) : Type 0 where
   pub next : IsNextClass D f w read is v base
   pub closed : IsClosedList D f (read ++ v ∷ back)
 

@@ -49,7 +49,8 @@ loop-k-preserved c =
     let e : at wholes c.args.class.now k ≡ c.entry_at-entry.result = sym c.entry_at-entry.ensures.value in
     let value : c.with_multiple-sum.result ≡ at wholes c.args.left.now k +ℤ (pos j *ℤ at wholes c.args.part.now k) =
     rw (l, p) (rw (read-entry c.entry_at-first.result c.entry_at-first.ensures.limit, read-entry c.entry_at-second.result c.entry_at-second.ensures.limit) at c.with_multiple-sum.ensures.value) in
-    let here : at wholes c.args.left.now k +ℤ (pos j *ℤ at wholes c.args.part.now k) ≡ at wholes c.args.class.now k = omega (arith, ints) in
+    let here : at wholes c.args.left.now k +ℤ (pos j *ℤ at wholes c.args.part.now k) ≡ at wholes c.args.class.now k = omega
+        (arith, ints) in
     below_more _ _ c.loop-k.invariant here
 
 pub returns : goal.returns
