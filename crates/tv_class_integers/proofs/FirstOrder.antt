@@ -88,7 +88,8 @@ by-sized : (hs : List ℤ) (i : Integer) → IsByPower hs i sized (λ e. pos (un
 by-sized hs i = record { value = λ m e. refl; none = refl }
 
 module _ (hs : List ℤ) (w : ℕ) (v : List ℤ) (base : ℕ) (here : IsAtBase hs w v base) (js : List Integer) (x : ℤ) (s g t : ℕ)
-    (room : s + g ≡ base + 1) (slope : AllByRecursion (IsWithinSlope hs w) (record { class = v; genus = g; value = x } ∷ js)) where
+    (room : s + g ≡ base + 1) (slope : AllByRecursion (IsWithinSlope hs w)
+    (record { class = v; genus = g; value = x } ∷ js)) where
   abbrev new : Integer
   new = record { class = v; genus = g; value = x }
 
@@ -108,23 +109,27 @@ module _ (hs : List ℤ) (w : ℕ) (v : List ℤ) (base : ℕ) (here : IsAtBase 
   pub product-one : katz_by_weight hs w (new ∷ js) v t ≡ katz_by_weight hs w js v t -ℤ added s g x t
   product-one =
       let parts = first_order (factors_by hs g t new) (factors hs t js) p high in
-      let own = own-added hs new signed neg_ℤ (by-signed hs new) base s t (exponent_at hs w v t) weight-is g t refl (omega arith) room in
+      let own = own-added hs new signed neg_ℤ (by-signed hs new) base s t (exponent_at hs w v t) weight-is g t refl
+      (omega arith) room in
       katz_by_weight-product hs w t (new ∷ js) v t slope (omega arith) ∙
       (parts ∙
       (ap (λ z. product (factors hs t js) p +ℤ z) (lead-signed (factors_by hs g t new) p ∙ own) ∙
-      (ap (λ z. z +ℤ neg_ℤ (added s g x t)) (sym (katz_by_weight-product hs w t js v t slope.1 (omega arith))) ∙ omega (arith, ints))))
+      (ap (λ z. z +ℤ neg_ℤ (added s g x t)) (sym (katz_by_weight-product hs w t js v t slope.1 (omega arith))) ∙
+      omega (arith, ints))))
 
   pub sizes-one : absolute_product hs (new ∷ js) v (exponent_at hs w v t) ≡
       absolute_product hs js v (exponent_at hs w v t) +ℤ pos (unsigned_abs (added s g x t))
   sizes-one =
       let n = exponent_at hs w v t in
       let parts = first_order (map without_sign (factors_by hs g t new)) (map without_sign (factors hs t js)) p high-sized in
-      let own = own-added hs new sized (λ e. pos (unsigned_abs e)) (by-sized hs new) base s t n weight-is g t refl (omega arith) room in
+      let own = own-added hs new sized (λ e. pos (unsigned_abs e)) (by-sized hs new) base s t n weight-is g t refl
+      (omega arith) room in
       product-absolute hs w (new ∷ js) v n t slope (omega (arith, ints, place-weight hs w v t)) ∙
       (ap (λ fs. product fs p) (map-append without_sign (factors_by hs g t new) (factors hs t js)) ∙
       (parts ∙
       (ap (λ z. product (map without_sign (factors hs t js)) p +ℤ z) (lead-sized (factors_by hs g t new) p ∙ own) ∙
-      ap (λ z. z +ℤ pos (unsigned_abs (added s g x t))) (sym (product-absolute hs w js v n t slope.1 (omega (arith, ints, place-weight hs w v t)))))))
+      ap (λ z. z +ℤ pos (unsigned_abs (added s g x t))) (sym (product-absolute hs w js v n t slope.1 (omega
+      (arith, ints, place-weight hs w v t)))))))
 
 pub first_order_sum : FirstOrder
 first_order_sum hs w v base is [] t here slope short = omega (arith, ints)

@@ -40,7 +40,8 @@ module _ (powers : List ℤ) where
   higher : (i : ℕ) (list : List Power) → AllByRecursion (λ f. f.step < i) list → AllByRecursion (λ f. f.step < i + 1) list
   higher i list below = all-onto (λ f. f.step < i) (λ f. f.step < i + 1) (λ f h. omega arith) list below
 
-  pub listed-same : (i : ℕ) (list : List Power) → IsListedTo powers i list → at wholes powers i ≡ pos 0 → IsListedTo powers (i + 1) list
+  pub listed-same : (i : ℕ) (list : List Power) → IsListedTo powers i list → at wholes powers i ≡ pos 0 →
+      IsListedTo powers (i + 1) list
   listed-same i list was e = record {
     below = higher i list was.below;
     once = was.once;
@@ -51,7 +52,8 @@ module _ (powers : List ℤ) where
     none = λ s h. was.none s (omega arith);
   }
 
-  module _ (i : ℕ) (list next : List Power) (f : Power) (was : IsListedTo powers i list) (e : next ≡ list ++ f ∷ []) (step : f.step ≡ i)
+  module _ (i : ℕ) (list next : List Power) (f : Power) (was : IsListedTo powers i list) (e : next ≡ list ++ f ∷ [])
+      (step : f.step ≡ i)
       (power : f.power ≡ at wholes powers i) where
     split : (s : ℕ) → power_by next s ≡ power_by list s +ℤ when (nat_eq f.step s) f.power
     split s =
@@ -63,7 +65,8 @@ module _ (powers : List ℤ) where
     listed-more = record {
       below = rw e (all-append (λ g. g.step < i + 1) list (f ∷ []) (higher i list was.below) (omega arith, tt));
       once = rw e (distinct-append same_step list (f ∷ []) was.once (tt, tt)
-          (all-onto (λ g. g.step < i) (λ g. AllByRecursion (λ h. same_step g h ≡ false) (f ∷ [])) (λ g h. (eq-off g.step f.step (λ same. absurd (omega arith)), tt)) list was.below));
+          (all-onto (λ g. g.step < i) (λ g. AllByRecursion (λ h. same_step g h ≡ false) (f ∷ [])) (λ g h.
+          (eq-off g.step f.step (λ same. absurd (omega arith)), tt)) list was.below));
       sums = λ s h. elim (cases_lt s i) as (λ _. power_by next s ≡ at wholes powers s) [
         | inl before ↦
             let off = when-off (nat_eq f.step s) f.power (eq-off f.step s (λ same. absurd (omega arith))) in

@@ -63,7 +63,8 @@ module _ (f : Factor) (fs : List Factor) (p : Place) where
 
   term-first : term 0 ≡ product (map without_sign fs) p
   unfolding difference_by
-  term-first = ap (λ z. z *ℤ product (map without_sign fs) p) (power_at-zero (without_sign f).power) ∙ one-mul (product (map without_sign fs) p)
+  term-first = ap (λ z. z *ℤ product (map without_sign fs) p) (power_at-zero (without_sign f).power) ∙
+      one-mul (product (map without_sign fs) p)
 
   terms : product (map without_sign (f ∷ fs)) p ≡ sum_below term (suc (as_natural p.degree))
   unfolding product times
@@ -76,7 +77,8 @@ pub product-front : (fs gs : List Factor) (p : Place) → product (map without_s
 product-front [] gs p = omega (arith, ints)
 product-front (f ∷ fs) gs p = omega (arith, ints, product-front fs gs p, product-more f (fs ++ gs) p)
 
-pub absolute-more : (hs : List ℤ) (w : ℕ) (more is : List Integer) (v : List ℤ) (n : ℤ) → AllByRecursion (IsWithinSlope hs w) (more ++ is) →
+pub absolute-more : (hs : List ℤ) (w : ℕ) (more is : List Integer) (v : List ℤ) (n : ℤ) →
+    AllByRecursion (IsWithinSlope hs w) (more ++ is) →
     absolute_product hs is v n ≤ℤ absolute_product hs (more ++ is) v n
 absolute-more hs w [] is v n slope = omega (arith, ints)
 absolute-more hs w (i ∷ more) is v n slope =
@@ -145,7 +147,8 @@ size_is_majorant D N f w read is v base more t next last far wide =
 
 scale-most : (d a : ℕ) (z : ℤ) → z ≤ℤ pos a → (pos d *ℤ z) ≤ℤ pos (d * a)
 scale-most d a z h =
-    let up : pos 0 ≤ℤ (pos d *ℤ (pos a -ℤ z)) = mul-nonneg-nonneg (pos d) (pos a -ℤ z) (omega (arith, ints)) (omega (arith, ints)) in
+    let up : pos 0 ≤ℤ (pos d *ℤ (pos a -ℤ z)) = mul-nonneg-nonneg (pos d) (pos a -ℤ z) (omega (arith, ints)) (omega
+    (arith, ints)) in
     omega (arith, ints, mul-sub (pos d) (pos a) z)
 
 twice-scaled : (d a : ℕ) → d * a ≤ (2 * d) * a
@@ -154,7 +157,8 @@ twice-scaled d a = omega arith
 -- a number that degree times the product without signs bounds
 pub bound_is_majorant : (D : ℕ) (N : ℤ) (f : Family ℤ) (w : ℕ) (read : List (List ℤ)) (is : List Integer) (v : List ℤ) (base : ℕ)
     (more : List Integer) (t x : ℕ) → IsNextClass D f w read is v base → IsLastOf D N f w is v base more →
-    pos t ≤ℤ (N +ℤ pos (w * D)) → pos x ≤ℤ (degree_of f.heights v *ℤ absolute_product f.heights is v (exponent_at f.heights w v t)) →
+    pos t ≤ℤ (N +ℤ pos (w * D)) → pos x ≤ℤ (degree_of f.heights v *ℤ absolute_product f.heights is v
+    (exponent_at f.heights w v t)) →
     limit < x → limit < majorant D N f (more ++ read_onto f w base is v) v (exponent_at f.heights w v t)
 bound_is_majorant D N f w read is v base more t x next last far bound wide =
     let hs = f.heights in let n = exponent_at hs w v t in

@@ -142,7 +142,8 @@ module _ (D : ℕ) (f : Family ℤ) (w : ℕ) (read : List (List ℤ)) (is : Lis
       let under : (n +ℤ (pos w *ℤ degree_of f.heights v)) <ℤ pos 0 = omega (arith, ints) in
       vanishes_by_slope f.heights w all v n slopes-after under ∙ sym (next.begins v n next.class under)
 
-  agrees-through : (end : ℕ) (n : ℤ) → AgreeBelow base S (product_after f w base is v) end → (n +ℤ pos base) <ℤ pos end → Agrees f all v n
+  agrees-through : (end : ℕ) (n : ℤ) → AgreeBelow base S (product_after f w base is v) end → (n +ℤ pos base) <ℤ pos end →
+      Agrees f all v n
   agrees-through end n agree below = elim (split (n +ℤ pos base)) [
     | inl low ↦ agrees-below n low
     | inr found ↦

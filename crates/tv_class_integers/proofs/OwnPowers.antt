@@ -30,7 +30,12 @@ choose-mirror zero (suc a) b e = absurd (omega arith)
 choose-mirror (suc n) zero b e = let same : b ≡ suc n = omega arith in rw same (sym (choose-whole (suc n)))
 choose-mirror (suc n) (suc a) zero e =
     let same : a ≡ n = omega arith in ap (λ k. choose (suc n) (suc k)) same ∙ choose-whole (suc n)
-choose-mirror (suc n) (suc a) (suc b) e = omega (arith, choose-mirror n a (suc b) (omega arith), choose-mirror n (suc a) b (omega arith))
+choose-mirror (suc n) (suc a) (suc b) e = omega (
+  arith,
+  choose-mirror n a (suc b) (omega arith),
+  choose-mirror n (suc a) b
+      (omega arith),
+)
 
 zero-class : (v : List ℤ) → is_zero_class (class_difference v v) ≡ true
 zero-class [] = refl
@@ -56,7 +61,8 @@ module _ (hs : List ℤ) (i : Integer) (c : Factor → ℤ) (E P : ℕ → ℤ) 
   pub none-here : (N : ℕ) → ((k : ℕ) → k < N → E k ≡ n → ⊥) → lead_by c (rows hs i E P N) (place hs i.class n) ≡ pos 0
   none-here zero off = refl
   none-here (suc k) off =
-      let here = ap (λ z. c (factor_at hs i (E k) (P k)) *ℤ z) (apart k (off k (omega arith))) ∙ *ℤ-zero (c (factor_at hs i (E k) (P k))) in
+      let here = ap (λ z. c (factor_at hs i (E k) (P k)) *ℤ z) (apart k (off k (omega arith))) ∙
+      *ℤ-zero (c (factor_at hs i (E k) (P k))) in
       omega (arith, ints, here, none-here k (λ j h. off j (omega arith)))
 
   pub one-here : (N k : ℕ) → k < N → E k ≡ n → ((j : ℕ) → E j ≡ n → j ≡ k) →
@@ -69,8 +75,10 @@ module _ (hs : List ℤ) (i : Integer) (c : Factor → ℤ) (E P : ℕ → ℤ) 
         omega (arith, ints, here, one-here m k below on only)
     | inr last ↦
         let same : k ≡ m = omega arith in
-        let here : c (factor_at hs i (E m) (P m)) *ℤ unit (difference (place hs i.class n) (factor_at hs i (E m) (P m)).at) ≡ c (factor_at hs i (E m) (P m)) =
-        ap (λ z. c (factor_at hs i (E m) (P m)) *ℤ z) (together m (ap E (sym same) ∙ on)) ∙ mul-one (c (factor_at hs i (E m) (P m))) in
+        let here : c (factor_at hs i (E m) (P m)) *ℤ unit (difference (place hs i.class n) (factor_at hs i (E m)
+        (P m)).at) ≡ c (factor_at hs i (E m) (P m)) =
+        ap (λ z. c (factor_at hs i (E m) (P m)) *ℤ z) (together m (ap E (sym same) ∙ on)) ∙
+        mul-one (c (factor_at hs i (E m) (P m))) in
         let rest = none-here m (λ j l e. let other = only j e in absurd (omega arith)) in
         omega (arith, ints, here, rest) ∙ ap (λ j. c (factor_at hs i (E j) (P j))) (sym same)
   ]
@@ -160,9 +168,11 @@ module _ (hs : List ℤ) (i : Integer) (c : Factor → ℤ) (C : ℤ → ℤ) (b
       (λ m here. omega (arith, ints)) in
       let sign : power_sign (k + i.genus) ≡ power_sign (j + suc h) = power_sign-same (k + i.genus) (j + suc h) (omega arith) in
       let top : 2 * i.genus - 2 ≡ 2 * h = omega arith in
-      let count : choose (2 * i.genus - 2) k ≡ choose (2 * h) j = ap (λ m. choose m k) top ∙ choose-mirror (2 * h) k j (omega arith) in
+      let count : choose (2 * i.genus - 2) k ≡ choose (2 * h) j = ap (λ m. choose m k) top ∙
+      choose-mirror (2 * h) k j (omega arith) in
       let power : higher_power i k ≡ power_of (suc h) j i.value =
-      ap (λ z. (z *ℤ i.value) *ℤ pos (choose (2 * i.genus - 2) k)) sign ∙ ap (λ m. (power_sign (j + suc h) *ℤ i.value) *ℤ pos m) count in
+      ap (λ z. (z *ℤ i.value) *ℤ pos (choose (2 * i.genus - 2) k)) sign ∙
+      ap (λ m. (power_sign (j + suc h) *ℤ i.value) *ℤ pos m) count in
       ap (λ fs. lead_by c fs (place hs i.class n)) (higher-rows hs (2 * i.genus - 1) i) ∙
       (found ∙ (by.value (higher_exponent i k) (higher_power i k) ∙ ap C power))
 

@@ -37,13 +37,15 @@ module _ (base : ℕ) (S R : ℕ → ℤ) where
   unfolding readings
   one-more n = refl
 
-  pub size-step : (n t : ℕ) → power_size base (Read (suc n)) t ≡ power_size base (Read n) t + unsigned_abs (added n (genus_at base n) (next_value base S R (Read n)) t)
+  pub size-step : (n t : ℕ) → power_size base (Read (suc n)) t ≡ power_size base (Read n) t + unsigned_abs (added n
+      (genus_at base n) (next_value base S R (Read n)) t)
   size-step n t =
       let count = length-readings base S R n in
       ap (λ xs. power_size base xs t) (one-more n) ∙
       ap (λ k. power_size base (Read n) t + unsigned_abs (added k (genus_at base k) (next_value base S R (Read n)) t)) count
 
-  pub sum-step : (n t : ℕ) → power_sum base (Read (suc n)) t ≡ power_sum base (Read n) t +ℤ added n (genus_at base n) (next_value base S R (Read n)) t
+  pub sum-step : (n t : ℕ) → power_sum base (Read (suc n)) t ≡ power_sum base (Read n) t +ℤ added n (genus_at base n)
+      (next_value base S R (Read n)) t
   sum-step n t =
       let count = length-readings base S R n in
       ap (λ xs. power_sum base xs t) (one-more n) ∙
@@ -90,11 +92,16 @@ module _ (base : ℕ) (S R : ℕ → ℤ) where
         };
       })
 
-  pub read-all : (n s : ℕ) (values powers : List ℤ) → IsReadTo n s values powers → s ≡ base + 2 → IsReading base n S R values powers
+  pub read-all : (n s : ℕ) (values powers : List ℤ) → IsReadTo n s values powers → s ≡ base + 2 →
+      IsReading base n S R values powers
   read-all n s values powers was e =
       record {
         read = was.read ∙ ap (λ k. reverse (Read k)) e;
-        gathered = record { count = was.gathered.count; each = λ t h. was.gathered.each t h ∙ ap (λ k. power_sum base (Read k) t) e };
+        gathered = record {
+          count = was.gathered.count;
+          each = λ t h. was.gathered.each t h ∙
+              ap (λ k. power_sum base (Read k) t) e;
+        };
       }
 
   pub wide-value : (n s : ℕ) (a b p : ℤ) → a ≡ S s → b ≡ R s → p ≡ power_sum base (Read s) s → s < base + 2 → s < n →

@@ -22,7 +22,8 @@ at-seam row more x = get_or-append_seam row x more (pos 0)
 pub row-none : (f : ℕ → ℤ) (row : List ℤ) → row ≡ [] → IsRow 0 f row
 row-none f row e = record { count = ap length e; each = λ t h. absurd (omega arith) }
 
-pub row-more : (f : ℕ → ℤ) (k : ℕ) (row next : List ℤ) (x : ℤ) → IsRow k f row → next ≡ row ++ x ∷ [] → x ≡ f k → IsRow (k + 1) f next
+pub row-more : (f : ℕ → ℤ) (k : ℕ) (row next : List ℤ) (x : ℤ) → IsRow k f row → next ≡ row ++ x ∷ [] → x ≡ f k →
+    IsRow (k + 1) f next
 row-more f k row next x was e here = record {
   count = ap length e ∙ omega (arith, length-append row (x ∷ []), was.count);
   each = λ t h. elim (cases_lt t k) [

@@ -46,7 +46,8 @@ read_onto f w base is v = onto v base (class_readings f w base is v) is
 abbrev pub product_after : Family ℤ → ℕ → ℕ → List Integer → List ℤ → ℕ → ℤ
 product_after f w base is v = product_at base (katz_by_weight f.heights w is v) (class_readings f w base is v)
 
-pub record IsNextClass (D : ℕ) (f : Family ℤ) (w : ℕ) (read : List (List ℤ)) (is : List Integer) (v : List ℤ) (base : ℕ) : Type 0 where
+pub record IsNextClass (D : ℕ) (f : Family ℤ) (w : ℕ) (read : List (List ℤ)) (is : List Integer) (v : List ℤ)
+    (base : ℕ) : Type 0 where
   pub begins : BeginsAbove D f w
   pub begun : IsBegun D f read is
   pub class : IsClassTo D f.heights v
@@ -84,7 +85,8 @@ DifferenceIsFirst =
     Differs f (read_onto f w base is v) v (exponent_at f.heights w v t) ×
     ((m : ℤ) → m <ℤ exponent_at f.heights w v t → Agrees f (read_onto f w base is v) v m)
 
-pub record IsLastOf (D : ℕ) (N : ℤ) (f : Family ℤ) (w : ℕ) (is : List Integer) (v : List ℤ) (base : ℕ) (more : List Integer) : Type 0 where
+pub record IsLastOf (D : ℕ) (N : ℤ) (f : Family ℤ) (w : ℕ) (is : List Integer) (v : List ℤ) (base : ℕ)
+    (more : List Integer) : Type 0 where
   pub ordered : AreOrdered D f.heights (more ++ read_onto f w base is v)
   pub slope : greatest_slope f.heights (more ++ read_onto f w base is v) ≡ w
   pub known : (n : ℤ) → N <ℤ n → coefficient_of wholes f v n ≡ pos 0

@@ -6,7 +6,7 @@
 -- mapped-more, mapped-all  one member more of a list that is made of another one, and all
 -- member-holds      what holds of each member holds of the one that was read
 -- rows-none, rows-more  no row yet, and one row more of a listed sequence
-use Rattle.std.specs.Prelude.{◌≡◌, ◌⊎◌, Contains, ℕ, suc, ◌+◌, ◌<◌, ◌≤◌, ℤ, List, [], ◌∷◌, ◌++◌, length, map, Bool, true, false}
+use Rattle.std.specs.Prelude.{◌≡◌, ◌⊎◌, Contains, ℕ, suc, ◌+◌, ◌<◌, ◌≤◌, ℤ, List, [], ◌∷◌, ◌++◌, length, map}
 use Rattle.std.specs.List.{AllByRecursion}
 use Rattle.std.proofs.Common.{refl, sym, ap, arith, ◌∙◌, inl, inr, drop, get_or, append_assoc, append-nil}
 use Rattle.std.proofs.Math.Seq.{drop-cons}
@@ -16,7 +16,7 @@ use Rattle.tv_lemmas.proofs.Members.{all-at, contains-cases}
 use Rattle.tv_laws_series.specs.Terms.{listed}
 use Rattle.tv_laws_series.proofs.Listed.{listed-none, listed-more}
 use Rattle.tv_spec_boxes.specs.Assignments.{same_vector}
-use Rattle.tv_spec_boxes.proofs.Vectors.{same_vector-same, same_vector_tells}
+use Rattle.tv_spec_boxes.proofs.Vectors.{same_vector_tells}
 use Rattle.tv_spec_series.proofs.Order.{same_vector-equal, same_vector-other}
 use Rattle.tv_class_parts.specs.ReadClasses.{ReadClass, find_row}
 
@@ -76,7 +76,7 @@ pub rows-more : {A : Type 0} (g : A → List ℤ) (F : ℕ → List ℤ) (n : �
     next ≡ xs ++ x ∷ [] → g x ≡ F n → map g next ≡ listed F (n + 1)
 rows-more g F n xs next x was e here =
     ap (map g) e ∙ (map-append g xs (x ∷ []) ∙ (ap (λ r. r ++ g x ∷ []) was ∙ (ap (λ r. listed F n ++ r ∷ []) here ∙
-        sym (listed-more F n))))
+    sym (listed-more F n))))
 
 -- what a loop has made of a list, with what is left
 pub mapped-more : {A B : Type 0} (g : A → B) (ls : List A) (i : ℕ) (l : A) (xs next : List B) (x : B) →

@@ -4,11 +4,9 @@
 -- product-row       the product less the powers
 -- difference-of     the first difference from the row
 -- numbers-of        the numbers
-use Rattle.std.specs.Prelude.{◌≡◌, ◌≢◌, ℕ, ◌+◌, ◌<◌, ◌≤◌, ℤ, ◌-ℤ◌, ◌*ℤ◌, unsigned_abs, List, length}
+use Rattle.std.specs.Prelude.{◌≡◌, ℕ, ◌+◌, ◌≤◌, ℤ, ◌-ℤ◌, ◌*ℤ◌, unsigned_abs, List}
 use Rattle.std.specs.List.{IsDistinct}
-use Rattle.std.proofs.Common.{refl, sym, ap, arith, ◌∙◌}
-use Rattle.std.proofs.lemmas.Int.{ints}
-use Rattle.tv_ring.specs.Operations.{limit}
+use Rattle.std.proofs.Common.{ap, arith, ◌∙◌}
 use Rattle.tv_ring.specs.Whole.{wholes}
 use Rattle.tv_ring.specs.Sums.{at}
 use Rattle.tv_recurrence.specs.declared.fault.RowFault.{RowFault}
@@ -17,7 +15,7 @@ use Rattle.tv_recurrence.specs.declared.part.Power.{Power}
 use Rattle.tv_recurrence.specs.Products.{power_by, same_step}
 use Rattle.tv_class_integers.specs.declared.differences.Difference.{Difference}
 use Rattle.tv_class_integers.specs.Rows.{IsRow, IsTooWideAt}
-use Rattle.tv_class_integers.specs.Readings.{all_readings, power_sum, power_size, product_at, sign_at, size_at, IsReading}
+use Rattle.tv_class_integers.specs.Readings.{all_readings, power_sum, product_at, sign_at, size_at, IsReading}
 use Rattle.tv_class_integers.specs.Differences.{AgreeBelow, IsFirstDifference}
 use Rattle.tv_class_integers.proofs.Readings.{power_sum-size}
 use Rattle.tv_class_parts.specs.Numbers.{IsNumbers, of_row, IsNumbersFault}
@@ -36,7 +34,7 @@ module _ (base end n : ℕ) (S R : ℕ → ℤ) where
 
   pub fault-of-product : (powers : List ℤ) → IsRow n (power_sum base all) powers → (fault : RowFault) →
       IsTooWideAt n (λ t. unsigned_abs (R t) + unsigned_abs (at wholes powers t)) fault →
-          IsNumbersFault base end n S R (of_row fault)
+      IsNumbersFault base end n S R (of_row fault)
   fault-of-product powers row (Wide t) wide =
       let within = wide.0 in
       let small = power_sum-size base all t in

@@ -4,7 +4,7 @@
 -- powers-apart      integers of other classes have none
 -- powers-own        those of one integer of the class
 -- powers-onto, powers-onto_other  those of all integers that were read off a class, there and at another class
-use Rattle.std.specs.Prelude.{◌≡◌, ◌⊎◌, Contains, ℕ, ◌+◌, ◌-◌, ◌≤◌, ℤ, pos, neg_ℤ, ◌+ℤ◌, ◌-ℤ◌, ◌*ℤ◌, ◌≤ℤ◌, List, [], ◌∷◌, ◌++◌, length, Bool, true, false}
+use Rattle.std.specs.Prelude.{◌≡◌, ℕ, ◌+◌, ◌≤◌, ℤ, pos, neg_ℤ, ◌+ℤ◌, ◌-ℤ◌, ◌*ℤ◌, List, [], ◌∷◌, ◌++◌, length, true}
 use Rattle.std.specs.List.{AllByRecursion}
 use Rattle.std.specs.Ordering.{int_eq}
 use Rattle.std.proofs.Common.{refl, sym, ap, arith, ◌∙◌, inl, inr}
@@ -12,11 +12,9 @@ use Rattle.std.proofs.Math.IntN.{*ℤ-zero}
 use Rattle.std.proofs.lemmas.Int.{ints}
 use Rattle.std.proofs.lemmas.Bool.{cases_Bool}
 use Rattle.std.proofs.lemmas.Bool.Decides.{Decides-int_eq}
-use Rattle.tv_lemmas.specs.Sums.{total}
 use Rattle.tv_lemmas.proofs.Sums.{total-append}
 use Rattle.tv_lemmas.proofs.Members.{all-onto}
 use Rattle.tv_lemmas.proofs.Multiplied.{mul-one}
-use Rattle.tv_spec_plane.specs.Web.{degree_of}
 use Rattle.tv_spec_boxes.specs.Assignments.{same_vector}
 use Rattle.tv_spec_series.proofs.Order.{same_vector-equal, same_vector-other}
 use Rattle.tv_spec_katz.specs.Places.{place, difference, unit, class_difference, is_zero_class}
@@ -26,12 +24,12 @@ use Rattle.tv_laws_katz.specs.Logarithm.{when}
 use Rattle.tv_laws_katz.specs.Gathered.{power_in}
 use Rattle.tv_laws_katz.proofs.FurtherInteger.{IsFactorOf, factors-are}
 use Rattle.tv_laws_katz.proofs.Totals.{total-none, when-on, when-off}
-use Rattle.tv_laws_katz.proofs.Units.{IsUnit, unit-one, unit-none}
+use Rattle.tv_laws_katz.proofs.Units.{unit-one, unit-none}
 use Rattle.tv_class_integers.specs.Powers.{added}
 use Rattle.tv_class_integers.specs.Readings.{genus_at, power_sum}
 use Rattle.tv_class_integers.specs.ClassIntegers.{onto}
 use Rattle.tv_class_integers.proofs.FirstOrder.{onto-none, onto-one, zero-cases}
-use Rattle.tv_class_integers.proofs.OwnPowers.{lead_by, own-added, added-none, IsByPower}
+use Rattle.tv_class_integers.proofs.OwnPowers.{lead_by, own-added, added-none}
 
 pub powers-append : (fs gs : List Factor) (B : List ℤ) (m : ℤ) → power_in (fs ++ gs) B m ≡ power_in fs B m +ℤ power_in gs B m
 unfolding power_in

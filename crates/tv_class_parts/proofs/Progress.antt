@@ -5,25 +5,19 @@
 -- next-of           the next class of a list that is under way
 -- Final, final-of   all integers, and what they have in front of those so far
 -- steps_on, ends_well, parts_are_wide, reading_is_wide, difference_is_seen  the laws
-use Rattle.std.specs.Prelude.{◌≡◌, ◌≢◌, ◌⊎◌, Contains, ℕ, zero, suc, ◌+◌, ◌*◌, ◌<◌, ◌≤◌, ℤ, pos, ◌+ℤ◌, ◌-ℤ◌, ◌*ℤ◌, ◌≤ℤ◌, ◌<ℤ◌, unsigned_abs, List, [], ◌∷◌, ◌++◌, length}
+use Rattle.std.specs.Prelude.{◌≡◌, ◌≢◌, ◌⊎◌, Contains, ℕ, zero, suc, ◌*◌, ◌<◌, ◌≤◌, ℤ, pos, ◌+ℤ◌, ◌*ℤ◌, ◌≤ℤ◌, List, [], ◌∷◌, ◌++◌}
 use Rattle.std.specs.List.{AllByRecursion}
-use Rattle.std.specs.Ordering.{int_eq}
 use Rattle.std.proofs.Common.{refl, sym, ap, arith, ◌∙◌, inl, inr, append_assoc, append-nil}
 use Rattle.std.proofs.lemmas.Int.{ints}
-use Rattle.std.proofs.lemmas.List.Elements.{Contains-append_left, Contains-append_right, Contains-append_cases}
+use Rattle.std.proofs.lemmas.List.Elements.{Contains-append_right, Contains-append_cases}
 use Rattle.tv_lemmas.proofs.Members.{all-onto, all-append, all-contains, contains-head, contains-cases}
-use Rattle.tv_lemmas.specs.Naturals.{as_natural}
-use Rattle.tv_lemmas.proofs.Naturals.{as_natural-is}
 use Rattle.tv_ring.specs.Operations.{limit}
-use Rattle.tv_ring.specs.Whole.{wholes}
-use Rattle.tv_spec_plane.specs.Web.{degree_of}
 use Rattle.tv_spec_boxes.specs.Classes.{IsBefore}
-use Rattle.tv_spec_series.specs.Families.{Family, coefficient_of}
-use Rattle.tv_spec_katz.specs.Katz.{Integer, katz}
-use Rattle.tv_spec_katz.specs.Integers.{Agrees, IsCompared, with_integer, read_genus, read_down, read_class, read_classes, new_integer, first_genus}
-use Rattle.tv_spec_katz.specs.Majorant.{greatest_slope, majorant, majorant_end, absolute_product}
-use Rattle.tv_spec_katz.specs.Relations.{AreIntegers, IsNormalized}
-use Rattle.tv_laws_integers.specs.Closed.{IsClassTo, IsClosedList, IsListed}
+use Rattle.tv_spec_series.specs.Families.{Family}
+use Rattle.tv_spec_katz.specs.Katz.{Integer}
+use Rattle.tv_spec_katz.specs.Integers.{with_integer, read_genus, read_down, read_class, read_classes, new_integer, first_genus}
+use Rattle.tv_spec_katz.specs.Majorant.{greatest_slope, majorant}
+use Rattle.tv_laws_integers.specs.Closed.{IsClassTo, IsClosedList}
 use Rattle.tv_laws_integers.specs.Reading.{AgreesThrough, IsBegun, IsSeen}
 use Rattle.tv_laws_integers.specs.Laws.{GoesOn}
 use Rattle.tv_laws_integers.proofs.Existence.{before_back, agrees_through}
@@ -38,8 +32,8 @@ use Rattle.tv_class_integers.specs.NextClasses.{series_by_weight, read_onto, pro
 use Rattle.tv_class_integers.proofs.NextClass.{class_is_read, classes_keep, product-read, from-weight, class_agrees, difference_is_first}
 use Rattle.tv_class_integers.proofs.Majorants.{size_is_majorant, bound_is_majorant}
 use Rattle.tv_class_parts.specs.ReadClasses.{ReadClass, parts_of}
-use Rattle.tv_class_parts.specs.Tables.{IsBeforeClass, IsAfterClass}
-use Rattle.tv_class_parts.specs.Progress.{IsUnderWay, IsLaterRead, HasAllIntegers, IsWidePlace, IsUnequalPlace, StepsOn, EndsWell, PartsAreWide, ReadingIsWide, DifferenceIsSeen}
+use Rattle.tv_class_parts.specs.Tables.{IsBeforeClass}
+use Rattle.tv_class_parts.specs.Progress.{IsLaterRead, IsWidePlace, IsUnequalPlace, StepsOn, EndsWell, PartsAreWide, ReadingIsWide, DifferenceIsSeen}
 use Rattle.tv_class_parts.proofs.Tables.{parts_are_katz, table_goes_on}
 use Rattle.tv_class_integers.proofs.FirstOrder.{onto-none, onto-one, zero-cases}
 
@@ -124,7 +118,7 @@ module _ (D : ℕ) (N : ℤ) (f : Family ℤ) (w T : ℕ) (read back : List (Lis
   slope-is =
       let high = (slope_of_series D f final w goes.are).1 later.way.begins in
       let low = later.way.least (greatest_slope hs final) ((slope_of_series D f final (greatest_slope hs final) goes.are).0
-          (omega arith)) in
+      (omega arith)) in
       omega arith
 
   last-of : IsLastOf D N f w is v base front.more
@@ -175,8 +169,14 @@ module _ (D : ℕ) (N : ℤ) (f : Family ℤ) (w T : ℕ) (read back : List (Lis
       let place = later.place in
       let first = difference_is_first D f w read is v base t next-of agree other in
       let among = Contains-append_right read (v ∷ []) v (contains-head v v [] refl) in
-      let seen : IsSeen N f (read ++ v ∷ []) is' v n = record { there = among; within = omega
-          (arith, ints); others = others; before = first.1; differs = first.0 } in
+      let seen : IsSeen N f (read ++ v ∷ []) is' v n = record {
+        there = among;
+        within = omega
+            (arith, ints);
+        others = others;
+        before = first.1;
+        differs = first.0;
+      } in
       let has = mismatch_at D N f (read ++ v ∷ []) back closed-after is' begun-after' v n seen later.way.far later.way.normalized in
       record {
         integers = final;
@@ -226,7 +226,7 @@ parts_are_wide D N f w T read back is v base ls d t later degree h wide =
     let katz_parts = parts_are_katz D f w T read back is v base ls d t before later.way.table degree h in
     reading-wide D N f w T read back is v base ls later t h
     (bound_is_majorant D N f w read is v base (front D N f w T read back is v base ls later).more t (parts_size t
-        (parts_of ls v d))
+    (parts_of ls v d))
     (next-of D N f w T read back is v base ls later) (last-of D N f w T read back is v base ls later)
     (room D N f w T read back is v base ls later t h)
     (sizes_of_katz_parts f.heights w D T is v t read (parts_of ls v d) katz_parts) wide)

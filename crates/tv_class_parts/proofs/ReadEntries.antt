@@ -1,10 +1,10 @@
 -- Entries of classes as machine numbers.
 --
 -- read-entry        an entry is read as it was written
-use Rattle.std.specs.Prelude.{◌≡◌, ◌≤◌, ℤ, unsigned_abs}
+use Rattle.std.specs.Prelude.{◌≡◌, ℤ}
 use Rattle.std.specs.Int.{w64}
 use Rattle.std.proofs.Common.{arith}
-use Rattle.std.proofs.lemmas.Int.{ints, to_z-of_z, fits_signed_from_abs}
+use Rattle.std.proofs.lemmas.Int.{to_z-of_z, fits_signed_from_abs}
 use mir.Val.{to_z, of_z}
 use Rattle.tv_lattice.specs.Classes.{IsEntry}
 

@@ -4,10 +4,10 @@
 -- found-katz        the row that is found has the product
 -- are-parts         what the classes add to the next one
 -- parts_are_katz, table_goes_on  the laws
-use Rattle.std.specs.Prelude.{◌≡◌, ◌≢◌, ◌⊎◌, Contains, ℕ, zero, suc, ◌+◌, ◌*◌, ◌/◌, ◌<◌, ◌≤◌, ℤ, pos, neg_ℤ, ◌+ℤ◌, ◌-ℤ◌, ◌*ℤ◌, ◌≤ℤ◌, ◌<ℤ◌, unsigned_abs, List, [], ◌∷◌, ◌++◌, length, map, drop, true, false}
+use Rattle.std.specs.Prelude.{◌≡◌, ◌⊎◌, Contains, ℕ, suc, ◌+◌, ◌*◌, ◌/◌, ◌<◌, ◌≤◌, ℤ, pos, ◌+ℤ◌, ◌-ℤ◌, ◌*ℤ◌, ◌≤ℤ◌, ◌<ℤ◌, unsigned_abs, List, [], ◌∷◌, ◌++◌, length, map, drop, true, false}
 use Rattle.std.specs.List.{AllByRecursion, IsDistinct}
 use Rattle.std.specs.Ordering.{int_eq}
-use Rattle.std.proofs.Common.{refl, sym, ap, arith, ◌∙◌, inl, inr, get_or, mul_comm, mul-le-mul_left, mul-le-mul_right}
+use Rattle.std.proofs.Common.{refl, sym, ap, arith, ◌∙◌, inl, inr, mul_comm, mul-le-mul_left, mul-le-mul_right}
 use Rattle.std.proofs.Math.IntN.{*ℤ-zero}
 use Rattle.std.proofs.lemmas.Int.{ints}
 use Rattle.std.proofs.lemmas.List.{map-append, get_or_past}
@@ -15,7 +15,7 @@ use Rattle.std.proofs.lemmas.List.Elements.{Contains-append_left, Contains-appen
 use Rattle.std.proofs.lemmas.List.FromFn.{get_or-map-range_with_len}
 use Rattle.std.proofs.lemmas.Bool.{cases_lt, and_parts}
 use Rattle.std.proofs.lemmas.Bool.Decides.{Decides-int_eq}
-use Rattle.tv_lemmas.proofs.Members.{all-onto, all-both, all-append, all-front, all-back, all-contains, all-members, contains-head, contains-later, contains-cases}
+use Rattle.tv_lemmas.proofs.Members.{all-onto, all-both, all-append, all-front, all-contains, contains-head, contains-later, contains-cases}
 use Rattle.tv_ring.specs.Whole.{wholes}
 use Rattle.tv_ring.specs.Sums.{at}
 use Rattle.tv_laws_series.specs.Terms.{listed}
@@ -31,22 +31,20 @@ use Rattle.tv_spec_katz.specs.Places.{place, class_difference, is_zero_class}
 use Rattle.tv_spec_katz.specs.Katz.{Integer, factors, katz}
 use Rattle.tv_laws_katz.specs.Gathered.{power_in}
 use Rattle.tv_laws_katz.specs.Logarithm.{begins_at}
-use Rattle.tv_laws_katz.specs.Weights.{IsWithinSlope}
 use Rattle.tv_laws_katz.proofs.Elsewhere.{AddsTo, elsewhere, unit_below_one}
 use Rattle.tv_laws_katz.proofs.Units.{unit-none}
 use Rattle.tv_laws_integers.specs.Closed.{IsClassTo, IsClosedList, IsListed}
-use Rattle.tv_recurrence.specs.Parts.{Addends}
-use Rattle.tv_recurrence.specs.KatzParts.{katz_by_weight, IsKatzLogarithmic}
+use Rattle.tv_recurrence.specs.KatzParts.{katz_by_weight}
 use Rattle.tv_recurrence.specs.Products.{class_after, row_at, exponent_at, IsPartOf, ArePartsOf}
-use Rattle.tv_class_integers.specs.NextClasses.{read_onto, IsNextClass}
-use Rattle.tv_class_integers.proofs.NextClass.{slopes, class_is_read, classes_keep, product_is_read}
-use Rattle.tv_class_integers.specs.Readings.{power_sum, readings}
+use Rattle.tv_class_integers.specs.NextClasses.{read_onto}
+use Rattle.tv_class_integers.proofs.NextClass.{slopes, classes_keep, product_is_read}
+use Rattle.tv_class_integers.specs.Readings.{power_sum}
 use Rattle.tv_class_integers.specs.NextClasses.{series_by_weight, class_readings}
 use Rattle.tv_class_integers.proofs.Readings.{length-readings}
-use Rattle.tv_class_parts.specs.ReadClasses.{ReadClass, find_row, part_rows, part_of, parts_of}
+use Rattle.tv_class_parts.specs.ReadClasses.{ReadClass, find_row, part_rows, part_of}
 use Rattle.tv_class_parts.specs.Tables.{IsReadClass, IsTable, IsBeforeClass, IsAfterClass, PartsAreKatz, TableGoesOn}
 use Rattle.tv_class_parts.proofs.ClassesAfter.{length-after, degree-after}
-use Rattle.tv_class_parts.proofs.Lookups.{IsFound, IsAbsent, find-cases}
+use Rattle.tv_class_parts.proofs.Lookups.{find-cases}
 use Rattle.tv_class_parts.proofs.OwnPowersIn.{powers-onto, powers-onto_other}
 
 -- ---- classes outside a closed list
@@ -155,7 +153,7 @@ module _ (D : ℕ) (f : Family ℤ) (w T : ℕ) (read back : List (List ℤ)) (i
     | inl same ↦ absurd (let e = ap (degree_of hs) same in omega (arith, ints))
     | inr later ↦
         let order = all-contains (IsBefore hs v) back u (first_before hs v back (rises-back hs read
-            (v ∷ back) before.closed.rises)) later in
+        (v ∷ back) before.closed.rises)) later in
         absurd (omega (arith, ints, before-degree hs v u order))
   ]
 
@@ -179,20 +177,20 @@ module _ (D : ℕ) (f : Family ℤ) (w T : ℕ) (read back : List (List ℤ)) (i
       at wholes (find_row u ls) s ≡ katz_by_weight hs w is u s
   found-katz u s h entries less = elim (find-cases (IsReadClass hs w T is) u ls table.each) as (λ _. at wholes
       (find_row u ls) s ≡ katz_by_weight hs w is u s) [
-    | inl found ↦
-        ap (λ r. at wholes r s) found.row ∙ (found.holds.coefficients s h ∙ ap (λ x. katz_by_weight hs w is x s) found.class)
-    | inr absent ↦
-        let n = exponent_at hs w u s in
-        let none = absent-none u n entries less (λ there. absent.none (rw table.classes there)) in
-        ap (λ r. at wholes r s) absent.row ∙ (at-none s ∙ sym (signed-none (power_sign (unsigned_abs n)) (katz hs is u n) none))
-  ]
+        | inl found ↦
+            ap (λ r. at wholes r s) found.row ∙ (found.holds.coefficients s h ∙ ap (λ x. katz_by_weight hs w is x s) found.class)
+        | inr absent ↦
+            let n = exponent_at hs w u s in
+            let none = absent-none u n entries less (λ there. absent.none (rw table.classes there)) in
+            ap (λ r. at wholes r s) absent.row ∙ (at-none s ∙ sym (signed-none (power_sign (unsigned_abs n)) (katz hs is u n) none))
+      ]
 
   below-none : (u : List ℤ) (s : ℕ) → degree_of hs u <ℤ pos 0 → katz_by_weight hs w is u s ≡ pos 0
   below-none u s less =
       let n = exponent_at hs w u s in
       signed-none (power_sign (unsigned_abs n)) (katz hs is u n)
       (unit_below_one hs is u n (omega (arith, ints)) ∙ unit-none (place hs u n) (λ is_unit. let e = is_unit.degree in
-          absurd (omega (arith, ints))))
+      absurd (omega (arith, ints))))
 
   -- ---- what one class adds
   module _ (d : ℕ) (degree : pos d ≡ degree_of hs v) (l : ReadClass) (line : IsReadClass hs w T is l) (up : 0 < l.degree) where
@@ -203,7 +201,7 @@ module _ (D : ℕ) (f : Family ℤ) (w T : ℕ) (read back : List (List ℤ)) (i
     left j =
         degree-after hs (suc j) v l.class before.next.class.positive.entries line.entries ∙
         (ap (λ z. z -ℤ (pos (suc j) *ℤ degree_of hs l.class)) (sym degree) ∙
-            ap (λ z. pos d -ℤ (pos (suc j) *ℤ z)) (sym line.degree))
+        ap (λ z. pos d -ℤ (pos (suc j) *ℤ z)) (sym line.degree))
 
     row-is : (j s : ℕ) → s ≤ T → at wholes (row_at (part_rows ls v l.class (d / l.degree)) j) s ≡ katz_by_weight hs w is
         (class_after (suc j) v l.class) s
@@ -211,11 +209,11 @@ module _ (D : ℕ) (f : Family ℤ) (w T : ℕ) (read back : List (List ℤ)) (i
     row-is j s h = elim (cases_lt j (d / l.degree)) [
       | inl within ↦
           let row : row_at (part_rows ls v l.class (d / l.degree)) j ≡ F j = get_or-map-range_with_len F 0
-              (d / l.degree) j j [] within (omega arith) in
+          (d / l.degree) j j [] within (omega arith) in
           let count = length-after (suc j) v l.class in
           let entries = before.next.class.positive.entries in
           let less : degree_of hs (class_after (suc j) v l.class) <ℤ degree_of hs v = omega
-              (arith, ints, left j, degree, positive-times j) in
+          (arith, ints, left j, degree, positive-times j) in
           ap (λ r. at wholes r s) row ∙ found-katz (class_after (suc j) v l.class) s h (count ∙ entries) less
       | inr past ↦
           let row : row_at (part_rows ls v l.class (d / l.degree)) j ≡ [] =
@@ -249,7 +247,7 @@ module _ (D : ℕ) (f : Family ℤ) (w T : ℕ) (read back : List (List ℤ)) (i
   are-parts : (d : ℕ) → pos d ≡ degree_of hs v → (rest : List ReadClass) → AllByRecursion (IsReadClass hs w T is) rest →
       AllByRecursion (λ (l : ReadClass). 0 < l.degree) rest →
       ArePartsOf hs w D T (factors hs T is) (katz_by_weight hs w is) v (map (λ (l : ReadClass). l.class) rest) (map
-          (part_of ls v d) rest)
+      (part_of ls v d) rest)
   are-parts d degree [] each up = tt
   are-parts d degree (l ∷ rest) each up = (part-is d degree l each.0 up.0, are-parts d degree rest each.1 up.1)
 
@@ -264,7 +262,7 @@ tail-each P (l ∷ ls) all = all.1
 
 pub positive-tail : (D : ℕ) (hs : List ℤ) (w T : ℕ) (read : List (List ℤ)) (is : List Integer) (ls : List ReadClass) →
     AllByRecursion (IsClassTo D hs) read → IsTable hs w T read is ls →
-        AllByRecursion (λ (l : ReadClass). 0 < l.degree) (drop 1 ls)
+    AllByRecursion (λ (l : ReadClass). 0 < l.degree) (drop 1 ls)
 positive-tail D hs w T read is ls each table =
     let rest = tail-classes ls (zeros (length hs)) read table.classes in
     all-both (IsReadClass hs w T is) (λ l. IsClassTo D hs l.class) (λ l. 0 < l.degree)

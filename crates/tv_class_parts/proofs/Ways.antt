@@ -6,15 +6,13 @@
 -- product-is        the row of quotients has the product
 -- fault-of-parts    a fault of the row
 -- fault-on, read-on the fault and the line of the class, from its numbers
-use Rattle.std.specs.Prelude.{◌≡◌, ◌≢◌, ℕ, zero, suc, ◌+◌, ◌*◌, ◌<◌, ◌≤◌, ℤ, pos, ◌+ℤ◌, ◌-ℤ◌, ◌*ℤ◌, ◌≤ℤ◌, ◌<ℤ◌, unsigned_abs, List, [], ◌∷◌, ◌++◌, length, map, drop, reverse}
-use Rattle.std.specs.List.{AllByRecursion, IsDistinct}
+use Rattle.std.specs.Prelude.{◌≡◌, ℕ, zero, suc, ◌+◌, ◌<◌, ◌≤◌, ℤ, pos, ◌+ℤ◌, ◌-ℤ◌, ◌*ℤ◌, ◌≤ℤ◌, unsigned_abs, List, [], ◌∷◌, length, map, drop, reverse}
+use Rattle.std.specs.List.{AllByRecursion}
 use Rattle.std.proofs.Common.{refl, sym, ap, arith, ◌∙◌}
 use Rattle.std.proofs.lemmas.Int.{ints}
 use Rattle.tv_lemmas.proofs.Members.{all-onto, all-both, all-front}
-use Rattle.tv_ring.specs.Operations.{limit}
 use Rattle.tv_ring.specs.Whole.{wholes}
 use Rattle.tv_ring.specs.Sums.{at}
-use Rattle.tv_spec_plane.specs.Web.{degree_of}
 use Rattle.tv_spec_boxes.specs.Assignments.{zeros}
 use Rattle.tv_laws_integers.specs.Closed.{IsClassTo}
 use Rattle.tv_recurrence.specs.declared.fault.RowFault.{RowFault}
@@ -22,19 +20,17 @@ use Rattle.tv_recurrence.specs.declared.fault.RowFault.TheVariants.{Wide as RowW
 use Rattle.tv_recurrence.specs.declared.part.Power.{Power}
 use Rattle.tv_recurrence.specs.KatzParts.{katz_by_weight}
 use Rattle.tv_recurrence.specs.Parts.{parts_total, IsMultiple}
-use Rattle.tv_recurrence.specs.Products.{exponent_at}
 use Rattle.tv_recurrence.specs.Rows.{IsQuotientRow, IsRowTooWide}
 use Rattle.tv_recurrence.proofs.KatzTotals.{coefficient_is_katz, katz_parts_are_exact}
 use Rattle.tv_class_integers.specs.Readings.{readings, all_readings, next_value, power_sum, product_at, size_at, sign_at}
 use Rattle.tv_class_integers.specs.Differences.{AgreeBelow, IsFirstDifference}
 use Rattle.tv_class_integers.specs.declared.differences.Difference.{Difference}
-use Rattle.tv_class_integers.specs.NextClasses.{series_by_weight, class_readings, read_onto, product_after}
+use Rattle.tv_class_integers.specs.NextClasses.{series_by_weight, class_readings, product_after}
 use Rattle.tv_class_integers.proofs.Readings.{length-readings}
 use Rattle.tv_class_parts.specs.declared.fault.ClassFault.{ClassFault}
 use Rattle.tv_class_parts.specs.declared.fault.ClassFault.TheVariants.{Wide, Differ, Memory}
 use Rattle.tv_class_parts.specs.ReadClasses.{ReadClass, CanBePart, parts_of}
-use Rattle.tv_class_parts.specs.Tables.{IsReadClass, IsTable, IsAfterClass}
-use Rattle.tv_class_parts.specs.Progress.{IsUnderWay, IsLaterRead, IsWidePlace, IsUnequalPlace}
+use Rattle.tv_class_parts.specs.Tables.{IsReadClass, IsAfterClass}
 use Rattle.tv_class_parts.specs.Numbers.{IsNumbers, of_row, IsNumbersFault}
 use Rattle.tv_class_parts.specs.Ways.{Way, IsGiven, IsReadOn, IsFaultOn}
 use Rattle.tv_class_parts.proofs.Progress.{before-of, next-of, steps_on, parts_are_wide, reading_is_wide, difference_is_seen}
@@ -51,7 +47,7 @@ readings-same base S S' R R' (suc n) s r =
     let first : next_value base S R xs ≡ next_value base S' R' xs =
     ap (λ z. z -ℤ (sign_at base (length xs) *ℤ product_at base R xs (length xs))) (s (length xs) (omega arith)) ∙
     ap (λ z. S' (length xs) -ℤ (sign_at base (length xs) *ℤ (z -ℤ power_sum base xs (length xs)))) (r (length xs)
-        (omega arith)) in
+    (omega arith)) in
     ap (λ ys. next_value base S R ys ∷ ys) rest ∙ ap (λ z. z ∷ xs) first
 
 module _ (g : Way) (v : List ℤ) (base d end : ℕ) (ls : List ReadClass) (series : List ℤ)
@@ -116,7 +112,7 @@ module _ (g : Way) (v : List ℤ) (base d end : ℕ) (ls : List ReadClass) (seri
         let before = before-of g.D g.N g.f g.w g.T g.read g.back g.integers v base ls given.later in
         let katz_parts = parts_are_katz g.D g.f g.w g.T g.read g.back g.integers v base ls d t before given.later.way.table given.degree h in
         coefficient_is_katz hs g.w g.D g.T g.integers v t g.read (parts_of ls v d) d
-            (at wholes product t) katz_parts degree-up given.degree
+        (at wholes product t) katz_parts degree-up given.degree
         (row.each t (omega arith))
 
     abbrev S' : ℕ → ℤ
@@ -154,8 +150,14 @@ module _ (g : Way) (v : List ℤ) (base d end : ℕ) (ls : List ReadClass) (seri
         let y = first.product ∙ ap (λ z. sign_at base t *ℤ z) (product-same t reach) in
         let seen = difference_is_seen g.D g.N g.f g.w g.T g.read g.back g.integers v base ls t given.later near
         (agree-same t (omega arith) first.before) (λ e. first.differ (x ∙ (e ∙ sym y))) in
-        record { integers = seen.integers; are = seen.are; mismatch = seen.mismatch; family = x ∙ seen.family; katz = y ∙
-            seen.katz }
+        record {
+          integers = seen.integers;
+          are = seen.are;
+          mismatch = seen.mismatch;
+          family = x ∙ seen.family;
+          katz = y ∙
+              seen.katz;
+        }
 
     pub fault-on : (fault : ClassFault) → IsNumbersFault base end (length product) S' R' fault → IsFaultOn g v fault
     fault-on (Wide t) wide =
@@ -172,7 +174,7 @@ module _ (g : Way) (v : List ℤ) (base d end : ℕ) (ls : List ReadClass) (seri
     read-on values line powers l numbers-are e =
         let count = given.count in let rows = row.count in
         let after : IsAfterClass g.f g.w g.T g.integers v base
-            (record { class = v; degree = d; row = line; powers = powers }) = record {
+        (record { class = v; degree = d; row = line; powers = powers }) = record {
           class = refl;
           degree = given.degree;
           coefficients = λ t h. numbers-are.product.each t (omega arith) ∙ product-same t h;

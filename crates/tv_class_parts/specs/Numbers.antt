@@ -7,8 +7,6 @@
 use Rattle.std.specs.Prelude.{◌≡◌, ℕ, ◌<◌, ℤ, List, reverse}
 use Rattle.std.specs.List.{IsDistinct}
 use Rattle.tv_ring.specs.Operations.{limit}
-use Rattle.tv_ring.specs.Whole.{wholes}
-use Rattle.tv_ring.specs.Sums.{at}
 use Rattle.tv_recurrence.specs.declared.fault.RowFault.{RowFault}
 use Rattle.tv_recurrence.specs.declared.fault.RowFault.TheVariants.{Wide as RowWide, Memory as RowMemory}
 use Rattle.tv_recurrence.specs.declared.part.Power.{Power}

@@ -12,7 +12,7 @@
 -- PartsAreWide        == where the sizes of the parts at a weight through T exceed the limit, the place is too wide
 -- ReadingIsWide       == so it is where those of series, product and powers do
 -- DifferenceIsSeen    == where series and product differ at a weight through N, not before, the family is unequal there
-use Rattle.std.specs.Prelude.{◌≡◌, ◌≢◌, ℕ, ◌+◌, ◌*◌, ◌≤◌, ◌<◌, ℤ, pos, ◌+ℤ◌, ◌*ℤ◌, ◌≤ℤ◌, ◌<ℤ◌, List, [], ◌∷◌, ◌++◌}
+use Rattle.std.specs.Prelude.{◌≡◌, ◌≢◌, ℕ, ◌*◌, ◌≤◌, ◌<◌, ℤ, pos, ◌+ℤ◌, ◌*ℤ◌, ◌≤ℤ◌, ◌<ℤ◌, List, [], ◌∷◌, ◌++◌}
 use Rattle.std.specs.List.{AllByRecursion}
 use Rattle.tv_ring.specs.Operations.{limit}
 use Rattle.tv_ring.specs.Whole.{wholes}
@@ -100,4 +100,4 @@ DifferenceIsSeen =
     AgreeBelow base (series_by_weight f w v) (product_after f w base is v) t →
     series_by_weight f w v t ≢ (sign_at base t *ℤ product_after f w base is v t) →
     IsUnequalPlace D N f v (exponent_at f.heights w v t) (series_by_weight f w v t)
-        (sign_at base t *ℤ product_after f w base is v t)
+    (sign_at base t *ℤ product_after f w base is v t)

@@ -7,7 +7,7 @@
 -- IsAfterClass f w T is v base l == l has the class v, its product after it is read, and the powers of what is read
 -- PartsAreKatz        == then the parts for v are those that the recurrence needs, at each weight through T
 -- TableGoesOn         == and with v, its product and its powers it is the table after v
-use Rattle.std.specs.Prelude.{◌≡◌, ℕ, ◌+◌, ◌≤◌, ℤ, pos, ◌+ℤ◌, List, [], ◌∷◌, ◌++◌, length, map}
+use Rattle.std.specs.Prelude.{◌≡◌, ℕ, ◌≤◌, ℤ, pos, ◌+ℤ◌, List, [], ◌∷◌, ◌++◌, length, map}
 use Rattle.std.specs.List.{AllByRecursion, IsDistinct}
 use Rattle.tv_ring.specs.Whole.{wholes}
 use Rattle.tv_ring.specs.Sums.{at}

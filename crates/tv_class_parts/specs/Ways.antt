@@ -13,7 +13,6 @@ use Rattle.tv_spec_plane.specs.Web.{degree_of}
 use Rattle.tv_spec_series.specs.Families.{Family}
 use Rattle.tv_spec_katz.specs.Katz.{Integer}
 use Rattle.tv_recurrence.specs.Products.{exponent_at}
-use Rattle.tv_class_integers.specs.declared.differences.Difference.{Difference}
 use Rattle.tv_class_integers.specs.NextClasses.{series_by_weight, class_readings, read_onto}
 use Rattle.tv_class_parts.specs.declared.fault.ClassFault.{ClassFault}
 use Rattle.tv_class_parts.specs.declared.fault.ClassFault.TheVariants.{Wide, Differ, Memory}

@@ -15,11 +15,13 @@ loop-step-preserved c =
     let read = at_read wholes powers i c.index-powers-step.result c.index-powers-step.is c.loop-step-test.true in
     elim c.if-not-same.branch [
       | then-not-same+in_ok-push w ↦
-          let items : c.if-not-same.list.items ≡ list ++ record { step = i; power = c.index-powers-step.result } ∷ [] = cc (w.in_ok-push.ensures.items) in
+          let items : c.if-not-same.list.items ≡ list ++ record { step = i; power = c.index-powers-step.result } ∷ [] = cc
+          (w.in_ok-push.ensures.items) in
           listed-more powers i list c.if-not-same.list.items (record { step = i; power = c.index-powers-step.result })
           c.loop-step.invariant items refl read
       | else-not-same w ↦
-          let none : at wholes powers i ≡ pos 0 = sym read ∙ (c.same.ensures.same.0 w.if-not-same.false ∙ c.whole.ensures.value) in
+          let none : at wholes powers i ≡ pos 0 = sym read ∙ (c.same.ensures.same.0 w.if-not-same.false ∙
+          c.whole.ensures.value) in
           let same = listed-same powers i list c.loop-step.invariant none in
           rw w.list-is same
     ]

@@ -5,7 +5,10 @@ use Rattle.tv_class_integers.proofs.magnitudes.first_entry.Goals as goal
 
 pub returns-then-place-eq0 : goal.returns-then-place-eq0
 returns-then-place-eq0 c =
-    record { value = c.whole.ensures.value ∙ (ap pos (sym (choose-whole 0)) ∙ ap (λ k. pos (choose 0 k)) (sym c.if-place-eq0.true)) }
+    record {
+      value = c.whole.ensures.value ∙ (ap pos (sym (choose-whole 0)) ∙
+          ap (λ k. pos (choose 0 k)) (sym c.if-place-eq0.true));
+    }
 
 pub returns-else-place-eq0 : goal.returns-else-place-eq0
 returns-else-place-eq0 c =

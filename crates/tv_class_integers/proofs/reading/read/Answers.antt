@@ -17,7 +17,8 @@ returns-in-Err-with_integer-clause-wide c =
     let first = at_read wholes c.args.series.now s c.index-series-weight.result c.index-series-weight.is (omega arith) in
     let second = at_read wholes c.args.product.now s c.index-product-weight.result c.index-product-weight.is (omega arith) in
     let within : s < length c.args.product.now = omega arith in
-    let third = at_read wholes c.loop-weight.powers.items s c.index.result.now c.index.ensures (omega arith) ∙ c.loop-weight.invariant.gathered.each s within in
+    let third = at_read wholes c.loop-weight.powers.items s c.index.result.now c.index.ensures (omega arith) ∙
+    c.loop-weight.invariant.gathered.each s within in
     let value = value-is c.args.base S R s c.in-Ok.value c.index-series-weight.result c.index-product-weight.result c.index.result.now first second third c.in-Ok.ensures.value in
     fault-power c.args.base S R (length c.args.product.now) s c.loop-weight.powers.items c.in-Ok.value
     c.loop-weight.invariant.gathered value c.loop-weight-test.true c.in-Err-with_integer.fault c.in-Err-with_integer.ensures.wide
@@ -29,7 +30,8 @@ returns-in-Err-clause-wide c =
     let first = at_read wholes c.args.series.now s c.index-series-weight.result c.index-series-weight.is (omega arith) in
     let second = at_read wholes c.args.product.now s c.index-product-weight.result c.index-product-weight.is (omega arith) in
     let within : s < length c.args.product.now = omega arith in
-    let third = at_read wholes c.loop-weight.powers.items s c.index.result.now c.index.ensures (omega arith) ∙ c.loop-weight.invariant.gathered.each s within in
+    let third = at_read wholes c.loop-weight.powers.items s c.index.result.now c.index.ensures (omega arith) ∙
+    c.loop-weight.invariant.gathered.each s within in
     wide-value c.args.base S R (length c.args.product.now) s c.index-series-weight.result c.index-product-weight.result c.index.result.now
     first second third c.loop-weight-test.true within (c.in-Err.ensures.wide (ap Err c.in-Err.ensures.no_memory))
 
@@ -40,7 +42,8 @@ loop-weight-preserved c =
     let first = at_read wholes c.args.series.now s c.index-series-weight.result c.index-series-weight.is (omega arith) in
     let second = at_read wholes c.args.product.now s c.index-product-weight.result c.index-product-weight.is (omega arith) in
     let within : s < length c.args.product.now = omega arith in
-    let third = at_read wholes c.loop-weight.powers.items s c.index.result.now c.index.ensures (omega arith) ∙ c.loop-weight.invariant.gathered.each s within in
+    let third = at_read wholes c.loop-weight.powers.items s c.index.result.now c.index.ensures (omega arith) ∙
+    c.loop-weight.invariant.gathered.each s within in
     let value = value-is c.args.base S R s c.in-Ok.value c.index-series-weight.result c.index-product-weight.result c.index.result.now first second third c.in-Ok.ensures.value in
     read-more c.args.base S R (length c.args.product.now) s c.loop-weight.values.items _ c.loop-weight.powers.items _ c.in-Ok.value
     c.loop-weight.invariant c.in_ok-push-in-Ok.ensures.items value

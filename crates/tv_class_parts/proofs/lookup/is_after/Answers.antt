@@ -1,4 +1,4 @@
-use Rattle.std.proofs.Common.{◌≡◌, ◌*ℤ◌, ◌+ℤ◌, pos, refl, sym, ◌∙◌, arith, below_more}
+use Rattle.std.proofs.Common.{◌≡◌, ◌*ℤ◌, ◌+ℤ◌, pos, refl, sym, arith, below_more}
 use Rattle.std.proofs.lemmas.Int.{ints}
 use Rattle.tv_ring.specs.Whole.{wholes}
 use Rattle.tv_ring.specs.Sums.{at}
@@ -50,7 +50,7 @@ loop-k-preserved c =
     let value : c.with_multiple-sum.result ≡ at wholes c.args.left.now k +ℤ (pos j *ℤ at wholes c.args.part.now k) =
     rw (l, p) (rw (read-entry c.entry_at-first.result c.entry_at-first.ensures.limit, read-entry c.entry_at-second.result c.entry_at-second.ensures.limit) at c.with_multiple-sum.ensures.value) in
     let here : at wholes c.args.left.now k +ℤ (pos j *ℤ at wholes c.args.part.now k) ≡ at wholes c.args.class.now k = omega
-        (arith, ints) in
+    (arith, ints) in
     below_more _ _ c.loop-k.invariant here
 
 pub returns : goal.returns

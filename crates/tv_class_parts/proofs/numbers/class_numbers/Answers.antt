@@ -8,6 +8,6 @@ pub returns-in-Err-product_row-clause-fault : goal.returns-in-Err-product_row-cl
 returns-in-Err-product_row-clause-fault c =
     rw c.fault_of_row.ensures.value
     (fault-of-product c.args.base c.args.end (length c.args.product.now) (at wholes c.args.series.now)
-        (at wholes c.args.product.now)
+    (at wholes c.args.product.now)
     c.in-Ok.reading.powers.items c.in-Ok.ensures.value.gathered c.in-Err-product_row.fault
     (rw c.deref.ensures.value at c.in-Err-product_row.ensures.wide))
