@@ -1,0 +1,8 @@
+use Rattle.std.proofs.Common.{◌-ℤ◌}
+use Rattle.tv_ring.specs.Whole.{wholes}
+use Rattle.tv_ring.specs.Sums.{at}
+use Rattle.tv_class_integers.specs.Rows.{IsRow}
+use Rattle.tv_class_integers.proofs.products.product_row.Given as goal
+
+abbrev pub invariant-loop-weight : goal.invariant-loop-weight
+invariant-loop-weight l = IsRow l.weight (λ t. at wholes l.product t -ℤ at wholes l.powers t) l.row.items

@@ -1,0 +1,5 @@
+pub mod ReadClasses
+pub mod Tables
+pub mod Progress
+pub mod Numbers
+pub mod Ways
