@@ -6,5 +6,7 @@ pub mod bare;
 mod counts;
 pub mod row;
 pub mod table;
+#[cfg(test)]
+mod tests;
 
 pub use counts::slice_counts;
