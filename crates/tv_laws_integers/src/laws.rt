@@ -5,12 +5,19 @@
 //! degree D and through exponent 1.
 
 ghost use Rattle.tv_laws_integers.specs.Laws.{ReducedNormalized, IntegersAre, IntegersOnly, OnlyWhereTheyBegin, IntegersListed};
+ghost use Rattle.tv_laws_integers.specs.Laws.{ReducedClassesAddUp};
 ghost use Rattle.tv_laws_integers.specs.Laws.{IntegersGoOn, AgreeEverywhere, SlopeOfSeries, MismatchFirst, MismatchOnly, NoMismatch, MismatchSeen};
 
 /// The reduced family, through an exponent of at least 0, of a graded web that has a height for each point and no diagrams on
 /// its open edges is normalized.
 pub fn reduced_is_normalized()
     ensures { ReducedNormalized }
+{}
+
+/// With any two of its classes, a reduced family of a graded web that has no diagrams on its open edges has their sum, where
+/// the degree of that is at most the degree to which the family goes.
+pub fn reduced_classes_add_up()
+    ensures { ReducedClassesAddUp }
 {}
 
 /// What is read off a normalized family class by class, and in each class from the greatest genus down, are its integers: at
