@@ -47,7 +47,7 @@ abbrev is_positive : Family ℤ → List ℤ → Bool
 is_positive f v = int_lt (pos 0) (degree_of f.heights v)
 
 -- class zero has no degree of at least 1
-positive_one : (f : Family ℤ) (v : List ℤ) → HasPositive f v → is_positive f v ≡ true → IsPositiveClass f.heights v
+pub positive_one : (f : Family ℤ) (v : List ℤ) → HasPositive f v → is_positive f v ≡ true → IsPositiveClass f.heights v
 positive_one f v (inl none) b =
     let e = ap (degree_of f.heights) none ∙ degree_zero f.heights (length f.heights) in
     let up = int_lt_tells (pos 0) (degree_of f.heights v) b in

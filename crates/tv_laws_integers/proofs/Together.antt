@@ -1,9 +1,10 @@
--- Two assignments together: its class is the sum of theirs. So of two classes that some assignments have, the sum is such a class
--- where its degree is at most the bound.
+-- Two assignments together are one whose class is the sum of theirs. So with any two classes of assignments of degree at most d
+-- their sum is such a class, where its degree is at most d.
 --
 -- one_row n    == the diagram of n cells in one row, with no row where n is 0
 -- together a b == on each edge the diagram of one row that has as many cells as those of a and b
-use Rattle.std.proofs.Common.{◌≡◌, ℕ, zero, suc, ◌+◌, ℤ, pos, ◌+ℤ◌, ◌*ℤ◌, ◌≤◌, ◌≤ℤ◌, List, [], ◌∷◌, length, refl, sym, ◌∙◌, ap, arith}
+use Rattle.std.specs.Prelude.{◌≡◌, ℕ, zero, suc, ◌+◌, ◌≤◌, ℤ, pos, ◌+ℤ◌, ◌*ℤ◌, ◌≤ℤ◌, List, [], ◌∷◌, length}
+use Rattle.std.proofs.Common.{refl, sym, ◌∙◌, ap, arith}
 use Rattle.std.proofs.lemmas.Int.{ints}
 use Rattle.std.proofs.lemmas.List.{length-map}
 use Rattle.std.specs.List.{AllByRecursion}
@@ -33,7 +34,8 @@ plus_comm (x ∷ u) (y ∷ v) = let first : x +ℤ y ≡ y +ℤ x = omega (arith
 plus-pairs : (a b u v : List ℤ) → plus (plus a b) (plus u v) ≡ plus (plus a u) (plus b v)
 plus-pairs a b u v =
     plus_assoc a b (plus u v)
-    ∙ (ap (plus a) (sym (plus_assoc b u v) ∙ (ap (λ z. plus z v) (plus_comm b u) ∙ plus_assoc u b v)) ∙ sym (plus_assoc a u (plus b v)))
+    ∙ (ap (plus a) (sym (plus_assoc b u v) ∙ (ap (λ z. plus z v) (plus_comm b u) ∙ plus_assoc u b v))
+    ∙ sym (plus_assoc a u (plus b v)))
 
 times-both : (m n : ℕ) (v : List ℤ) → times (m + n) v ≡ plus (times m v) (times n v)
 times-both m n [] = refl
@@ -74,8 +76,10 @@ length-together [] b e = refl
 length-together (r ∷ a) [] e = sym e
 length-together (r ∷ a) (s ∷ b) e = ap suc (length-together a b (omega arith))
 
-class_by-together : (w : Web) (e : CompactEdge) (r s : Rows) → class_by w e (one_row (size r + size s)) ≡ plus (class_by w e r) (class_by w e s)
-class_by-together w e r s = ap (λ n. times n (edge_class w e)) (size-one_row (size r + size s)) ∙ times-both (size r) (size s) (edge_class w e)
+class_by-together : (w : Web) (e : CompactEdge) (r s : Rows)
+    → class_by w e (one_row (size r + size s)) ≡ plus (class_by w e r) (class_by w e s)
+class_by-together w e r s =
+    ap (λ n. times n (edge_class w e)) (size-one_row (size r + size s)) ∙ times-both (size r) (size s) (edge_class w e)
 
 class_on-together : (w : Web) (es : List CompactEdge) (a b : Assignment) → length a ≡ length es → length b ≡ length es
     → class_on w es (together a b) ≡ plus (class_on w es a) (class_on w es b)
@@ -119,7 +123,8 @@ module _ (w : Web) (d : ℕ) (graded : IsGraded w) where
     within = within u v one other most;
   })
 
-  pub sum_is_class : (u v : List ℤ) → IsClass w d u → IsClass w d v → degree_of w.heights (plus u v) ≤ℤ pos d → IsClass w d (plus u v)
+  pub sum_is_class : (u v : List ℤ) → IsClass w d u → IsClass w d v → degree_of w.heights (plus u v) ≤ℤ pos d
+      → IsClass w d (plus u v)
   sum_is_class u v one other most = record {
     witness = both u v one other;
     listed = (assignments_are_all w d (both u v one other) graded).1 (both_is u v one other most);
