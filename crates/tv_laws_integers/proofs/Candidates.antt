@@ -28,12 +28,12 @@ most_tells a b h = grind (arith, ints)
 most-true : (a b : ℤ) → a ≤ℤ b → int_le a b ≡ true
 most-true a b h = grind (arith, ints)
 
-within_tells : (D : ℕ) (hs v : List ℤ) → is_within D hs v ≡ true → (pos 0 <ℤ degree_of hs v) × (degree_of hs v ≤ℤ pos D)
+pub within_tells : (D : ℕ) (hs v : List ℤ) → is_within D hs v ≡ true → (pos 0 <ℤ degree_of hs v) × (degree_of hs v ≤ℤ pos D)
 within_tells D hs v b =
     let parts = and_parts (int_lt (pos 0) (degree_of hs v)) (int_le (degree_of hs v) (pos D)) b in
     (int_lt_tells (pos 0) (degree_of hs v) parts.0, most_tells (degree_of hs v) (pos D) parts.1)
 
-within-true : (D : ℕ) (hs v : List ℤ) → pos 0 <ℤ degree_of hs v → degree_of hs v ≤ℤ pos D → is_within D hs v ≡ true
+pub within-true : (D : ℕ) (hs v : List ℤ) → pos 0 <ℤ degree_of hs v → degree_of hs v ≤ℤ pos D → is_within D hs v ≡ true
 within-true D hs v up most =
     let first = int_lt-true (pos 0) (degree_of hs v) up in
     rw first (most-true (degree_of hs v) (pos D) most)
@@ -47,7 +47,7 @@ abbrev is_positive : Family ℤ → List ℤ → Bool
 is_positive f v = int_lt (pos 0) (degree_of f.heights v)
 
 -- class zero has no degree of at least 1
-positive_one : (f : Family ℤ) (v : List ℤ) → HasPositive f v → is_positive f v ≡ true → IsPositiveClass f.heights v
+pub positive_one : (f : Family ℤ) (v : List ℤ) → HasPositive f v → is_positive f v ≡ true → IsPositiveClass f.heights v
 positive_one f v (inl none) b =
     let e = ap (degree_of f.heights) none ∙ degree_zero f.heights (length f.heights) in
     let up = int_lt_tells (pos 0) (degree_of f.heights v) b in

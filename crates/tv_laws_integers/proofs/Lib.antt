@@ -9,6 +9,8 @@ pub mod Mismatches
 pub mod Sorted
 pub mod SumsOfClasses
 pub mod Candidates
+pub mod Together
+pub mod AtClasses
 pub mod Closing
 pub mod Proved
 mod IntegerValues

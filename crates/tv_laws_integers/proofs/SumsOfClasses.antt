@@ -33,7 +33,7 @@ none-plus (x ∷ v) (suc n) e =
     let first : pos 0 +ℤ x ≡ x = omega (arith, ints) in
     rw (first, none-plus v n (omega arith)) refl
 
-plus_assoc : (u v w : List ℤ) → plus (plus u v) w ≡ plus u (plus v w)
+pub plus_assoc : (u v w : List ℤ) → plus (plus u v) w ≡ plus u (plus v w)
 plus_assoc [] v w = refl
 plus_assoc (x ∷ u) [] w = refl
 plus_assoc (x ∷ u) (y ∷ v) [] = refl

@@ -12,19 +12,25 @@
 --                       each class of that list, they do at every class of degree at most D
 -- SlopeOfSeries      == the greatest slope of the integers is the least c such that each series begins at - c * degree or above;
 --                       so it is known before the first integer
--- ReducedNormalized  == a reduced family, through an exponent of at least 0, of a graded web with a height for each point and all open edges empty is normalized
+-- ReducedNormalized  == a reduced family, through an exponent of at least 0, of a graded web with a height for each
+--                       point and all open edges empty is normalized
+-- ReducedClassesAddUp == with any two of its classes a reduced family of a graded web with all open edges empty has their sum,
+--                       where its degree is at most d
+-- IntegersAtClasses  == the integers of a reduced family, through an exponent of at least 1, of a graded web with a height for
+--                       each point and all open edges empty stand at classes of the family
 -- MismatchFirst      == a mismatch of a normalized family is the first place at which it differs from the product over what is
 --                       read off it
 -- MismatchOnly       == a family has at most one mismatch
--- NoMismatch         == it has none where the product over its integers agrees with it at all classes of degree at most D through N
+-- NoMismatch         == it has none where the product over its integers agrees with it at all classes of degree at most D
+--                       through N
 -- MismatchSeen       == it is seen as soon as the classes up to its own are read
 use Rattle.std.specs.Prelude.{◌≡◌, Contains, ℕ, ◌≤◌, ℤ, pos, ◌≤ℤ◌, List, ◌++◌, length}
 use Rattle.std.specs.List.{AllByRecursion}
 use Rattle.tv_ring.specs.Whole.{wholes}
-use Rattle.tv_spec_plane.specs.Web.{Web}
+use Rattle.tv_spec_plane.specs.Web.{Web, degree_of}
 use Rattle.tv_spec_plane.specs.Graded.{IsGraded}
-use Rattle.tv_spec_boxes.specs.Assignments.{no_legs}
-use Rattle.tv_spec_series.specs.Families.{Family}
+use Rattle.tv_spec_boxes.specs.Assignments.{no_legs, plus}
+use Rattle.tv_spec_series.specs.Families.{Family, classes}
 use Rattle.tv_spec_series.specs.ReducedFamilies.{IsReducedFamily}
 use Rattle.tv_spec_katz.specs.Katz.{Integer, katz}
 use Rattle.tv_spec_katz.specs.Integers.{Agrees, IsCompared, IsMismatch, integers, read_classes}
@@ -68,6 +74,16 @@ SlopeOfSeries = (D : ℕ) (f : Family ℤ) (is : List Integer) (c : ℕ) → Are
 abbrev pub ReducedNormalized : Type 0
 ReducedNormalized = (w : Web) (d : ℕ) (n : ℤ) (f : Family ℤ) → IsGraded w → length w.heights ≡ length w.points → pos 0 ≤ℤ n
     → IsReducedFamily wholes w (no_legs w) d n f → IsNormalized n f
+
+abbrev pub ReducedClassesAddUp : Type 0
+ReducedClassesAddUp = (w : Web) (d : ℕ) (n : ℤ) (f : Family ℤ) → IsGraded w → IsReducedFamily wholes w (no_legs w) d n f
+    → (u v : List ℤ) → Contains (classes f.rows) u → Contains (classes f.rows) v → degree_of f.heights (plus u v) ≤ℤ pos d
+    → Contains (classes f.rows) (plus u v)
+
+abbrev pub IntegersAtClasses : Type 0
+IntegersAtClasses = (w : Web) (d : ℕ) (n : ℤ) (f : Family ℤ) → IsGraded w → length w.heights ≡ length w.points → pos 1 ≤ℤ n
+    → IsReducedFamily wholes w (no_legs w) d n f → (is : List Integer) → AreIntegers d f is
+    → AllByRecursion (IsListed (classes f.rows)) is
 
 abbrev pub MismatchFirst : Type 0
 MismatchFirst = (D : ℕ) (N : ℤ) (f : Family ℤ) (v : List ℤ) (n : ℤ) → IsNormalized (pos 1) f

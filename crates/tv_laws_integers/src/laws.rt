@@ -5,12 +5,26 @@
 //! degree D and through exponent 1.
 
 ghost use Rattle.tv_laws_integers.specs.Laws.{ReducedNormalized, IntegersAre, IntegersOnly, OnlyWhereTheyBegin, IntegersListed};
-ghost use Rattle.tv_laws_integers.specs.Laws.{IntegersGoOn, AgreeEverywhere, SlopeOfSeries, MismatchFirst, MismatchOnly, NoMismatch, MismatchSeen};
+ghost use Rattle.tv_laws_integers.specs.Laws.{ReducedClassesAddUp, IntegersAtClasses};
+ghost use Rattle.tv_laws_integers.specs.Laws.{IntegersGoOn, AgreeEverywhere, SlopeOfSeries};
+ghost use Rattle.tv_laws_integers.specs.Laws.{MismatchFirst, MismatchOnly, NoMismatch, MismatchSeen};
 
 /// The reduced family, through an exponent of at least 0, of a graded web that has a height for each point and no diagrams on
 /// its open edges is normalized.
 pub fn reduced_is_normalized()
     ensures { ReducedNormalized }
+{}
+
+/// The reduced family, to degree d, of a graded web that has no diagrams on its open edges has with any two of its classes
+/// their sum, where the degree of that is at most d.
+pub fn reduced_classes_add_up()
+    ensures { ReducedClassesAddUp }
+{}
+
+/// The integers of a reduced family, through an exponent of at least 1, of a graded web that has a height for each point and no
+/// diagrams on its open edges stand at classes of the family, each of which is that of some assignment of diagrams.
+pub fn integers_at_classes()
+    ensures { IntegersAtClasses }
 {}
 
 /// What is read off a normalized family class by class, and in each class from the greatest genus down, are its integers: at
@@ -53,8 +67,8 @@ pub fn slope_of_series()
     ensures { SlopeOfSeries }
 {}
 
-/// The mismatch of a normalized family is the first class of degree at most D, and in it the first exponent at most N, at which it differs
-/// from the product over what is read off it.
+/// The mismatch of a normalized family is the first class of degree at most D, and in it the first exponent at most N, at
+/// which it differs from the product over what is read off it.
 pub fn mismatch_first()
     ensures { MismatchFirst }
 {}
