@@ -1,12 +1,16 @@
 //! The check of local P^2, as it is known from outside, and a made-up family in each kind.
 
+ghost use Rattle.std.specs.Prelude.{◌≡◌, OnOk, IfOk};
+
 use crate::check::print_check;
+use crate::gv::print_gv;
 use crate::series::{print_series, sections_of};
 use crate::summary::{print_summary, summarize};
 use std::alloc::Global;
 use std::test::Fail;
 use tv_degrees::grade::grade;
 use tv_graded::Graded;
+use tv_integers::{Integers, Report};
 use tv_lattice::class::Class;
 use tv_lattice::point::Point;
 use tv_laurent::Series;
@@ -146,6 +150,42 @@ fn sums_up_a_family(rt: HostRuntime) -> Result<(), Fail> {
     let text = print_summary(rt.alloc(), &summary)?;
     let expected =
         "report summary\ngrid 4\ndegree 2\nupto 2\nclasses 3\nterms 3\nzero -4\nsum 2\nend\n";
+    assert_eq!(rt; text.as_slice(), expected.as_bytes());
+    Ok(())
+}
+
+fn put(integers: &mut Integers, class: Class, genus: u32, value: i128) -> Result<(), Fail>
+    ensures { OnOk result (integers.new.heights ≡ integers.old.heights) }
+{
+    let number = Whole::new(value).ok_or("within")?;
+    if class.entries().len() != integers.heights().len() || number.get() == 0 {
+        return Err("no integer".into());
+    }
+    if class.degree(integers.heights()) <= 0 {
+        return Err("no class".into());
+    }
+    integers.put(class, genus, number)?;
+    Ok(())
+}
+
+// That family with 4 in genus 0 and -7 in genus 2 of class 1 -2.
+fn with_integers(alloc: Global) -> Result<Report, Fail>
+    ensures { IfOk result (λ report. report.integers.heights ≡ report.series.heights) }
+{
+    let series = made_up(alloc)?;
+    let mut integers = Integers::new(alloc, series.heights().to_vec(alloc)?);
+    put(&mut integers, class_of(alloc, 1, -2)?, 2, -7)?;
+    put(&mut integers, class_of(alloc, 1, -2)?, 0, 4)?;
+    Ok(Report { series, integers })
+}
+
+#[test]
+fn prints_integers(rt: HostRuntime) -> Result<(), Fail> {
+    crate::laws::text_tells_integers();
+    let report = with_integers(rt.alloc())?;
+    let text = print_gv(rt.alloc(), &report)?;
+    let expected =
+        "report gv\nheights 1 0\ndegree 2\nupto 3\nclass 0 0 0\nterm 0 1\nterm 2 -4\nclass 1 1 -2\nterm -1 5\ninteger 0 4\ninteger 2 -7\nclass 2 2 0\nend\n";
     assert_eq!(rt; text.as_slice(), expected.as_bytes());
     Ok(())
 }

@@ -16,7 +16,7 @@ use Rattle.tv_spec_katz.specs.Integers.{integers, candidates}
 use Rattle.tv_spec_katz.proofs.Samples.{conifold_heights, conifold_class, conifold_twice, conifold_series}
 use Rattle.tv_spec_text.specs.Reports.{Term, AreTerms}
 use Rattle.tv_spec_reports.specs.IntegerLines.{gv_text}
-use Rattle.tv_spec_reports.specs.IntegersReport.{integers_of, TellsFamily}
+use Rattle.tv_spec_reports.specs.IntegersReport.{integers_of, TellsIntegers}
 use Rattle.tv_spec_reports.proofs.Values.{term, conifold_sections}
 
 -- of the integers of local P^2 in degree 3, beside an integer 0 and one of another class: 27 in genus 0, -10 in genus 1
@@ -79,7 +79,7 @@ unfolding term find coefficient at above
 twice_terms = record { rises = (omega (arith, ints), (omega (arith, ints), tt)); each = (record { within = omega (arith, ints); value = refl; nonzero = λ e. cc }, (record { within = omega (arith, ints); value = refl; nonzero = λ e. cc }, (record { within = omega (arith, ints); value = refl; nonzero = λ e. cc }, tt))); whole = whole_twice }
 
 -- its sections tell them, with the integer 1 of the curve, and no other
-conifold_tells : TellsFamily 2 conifold_series (gv_text conifold_heights (pos 2) (pos 5) conifold_sections)
+conifold_tells : TellsIntegers 2 conifold_series (integers 2 conifold_series) (gv_text conifold_heights (pos 2) (pos 5) conifold_sections)
 unfolding conifold_sections term integers candidates comes_before find coefficient at above katz product times unit difference_by power_at binomial choose sum_below
 conifold_tells = record {
   sections = conifold_sections;

@@ -7,10 +7,10 @@
 --                        of the list that it has
 -- TellsIntegers D f is text == the text is the report of the family and of these integers through degree D: a section for each of
 --                        the family's classes, in order
--- TellsFamily D f text == so it is with the integers of the family
 -- IsIntegersReport w D N text == the text is the report of the reduced series of the web in degrees to D, through N, and of their
---                        integers; Katz's product over them has each coefficient of the family in these degrees, through N
-use Rattle.std.specs.Prelude.{◌≡◌, ℕ, ℤ, pos, List, [], ◌∷◌, map, not, ◌&&◌, if◌then◌else◌}
+--                        integers, which stand at its classes; Katz's product over them has each coefficient of the family in
+--                        these degrees, through N
+use Rattle.std.specs.Prelude.{◌≡◌, Contains, ℕ, ℤ, pos, List, [], ◌∷◌, map, not, ◌&&◌, if◌then◌else◌}
 use Rattle.std.specs.List.{AllByRecursion}
 use Rattle.std.specs.Ordering.{int_eq}
 use Rattle.tv_ring.specs.Whole.{wholes}
@@ -19,7 +19,8 @@ use Rattle.tv_spec_boxes.specs.Assignments.{no_legs, same_vector}
 use Rattle.tv_spec_series.specs.Families.{Family, classes, coefficient_of}
 use Rattle.tv_spec_series.specs.ReducedFamilies.{IsReducedFamily}
 use Rattle.tv_spec_katz.specs.Katz.{Integer}
-use Rattle.tv_spec_katz.specs.Integers.{integers, IsCompared, Agrees}
+use Rattle.tv_spec_katz.specs.Integers.{IsCompared, Agrees}
+use Rattle.tv_spec_katz.specs.Relations.{AreIntegers}
 use Rattle.tv_spec_text.specs.Reports.{AreTerms}
 use Rattle.tv_spec_reports.specs.IntegerLines.{GenusValue, GvSection, gv_text}
 
@@ -41,11 +42,11 @@ pub record TellsIntegers (D : ℕ) (f : Family ℤ) (is : List Integer) (text : 
   pub each : AllByRecursion (TellsClass f is) sections
   pub printed : text ≡ gv_text f.heights (pos D) f.upto sections
 
-abbrev pub TellsFamily : ℕ → Family ℤ → List ℕ → Type 0
-TellsFamily D f text = TellsIntegers D f (integers D f) text
-
 pub record IsIntegersReport (w : Web) (D : ℕ) (N : ℤ) (text : List ℕ) : Type 0 where
   pub family : Family ℤ
   pub reduced : IsReducedFamily wholes w (no_legs w) D N family
-  pub agrees : (v : List ℤ) (n : ℤ) → IsCompared D N family v n → Agrees family (integers D family) v n
-  pub tells : TellsFamily D family text
+  pub integers : List Integer
+  pub are : AreIntegers D family integers
+  pub told : AllByRecursion (λ i. Contains (classes family.rows) i.class) integers
+  pub agrees : (v : List ℤ) (n : ℤ) → IsCompared D N family v n → Agrees family integers v n
+  pub tells : TellsIntegers D family integers text

@@ -15,14 +15,13 @@ use Rattle.tv_degrees.proofs.Bounds.{class_entries-small}
 use Rattle.tv_spec_boxes.specs.Assignments.{no_legs}
 use Rattle.tv_spec_series.specs.Families.{Family, classes}
 use Rattle.tv_spec_series.specs.ReducedFamilies.{IsReducedFamily}
-use Rattle.tv_spec_katz.specs.Katz.{Integer, katz}
-use Rattle.tv_spec_katz.specs.Integers.{integers, IsCompared, Agrees, IsMismatch}
+use Rattle.tv_spec_katz.specs.Katz.{Integer}
+use Rattle.tv_spec_katz.specs.Integers.{IsCompared, Agrees, IsMismatch}
 use Rattle.tv_spec_katz.specs.Majorant.{majorant}
 use Rattle.tv_spec_katz.specs.Relations.{IsNormalized, AreIntegers}
 use Rattle.tv_laws_families.specs.Laws.{AreAtMost, HasReducedClasses}
 use Rattle.tv_laws_families.proofs.ReducedClasses.{reduced_classes}
-use Rattle.tv_laws_integers.proofs.Existence.{only}
-use Rattle.tv_laws_integers.proofs.Proved.{integers_are, reduced_is_normalized}
+use Rattle.tv_laws_integers.proofs.Proved.{reduced_is_normalized}
 use Rattle.tv_integers.specs.Kept.{Kept}
 use Rattle.tv_gv.specs.Extracted.{HasSmallEntries, IsExtractable, HasIntegers, IsTooWide, IsUnequal}
 use Rattle.tv_spec_reports.specs.IntegerLines.{gv_text}
@@ -38,6 +37,7 @@ use Rattle.tv_top.specs.declared.command.Command.TheVariants.{Gv}
 use Rattle.tv_top.specs.declared.answer.Answer.{Answer}
 use Rattle.tv_top.specs.declared.answer.Failure.{Failure}
 use Rattle.tv_top.specs.declared.status.Status.TheVariants.{Wide, Differs}
+use Rattle.tv_laws_integers.proofs.AtClasses.{integers_at_classes}
 
 -- ---- a reduced family is one of which integers can be extracted
 
@@ -76,27 +76,26 @@ module _ (w : Web) (d : ℕ) (n : ℤ) (f : Family ℤ) (suited : IsSuited w) (d
             (λ v all. subst (λ hs. HasSmallEntries hs v) (sym reduced.heights) (small_entries w.heights v all)) (classes f.rows) found.entries;
       }
 
-  through_one : IsNormalized (pos 1) f
-  through_one =
-      let u = reduced.upto in let least = order.0 in
-      record { unit = normalized.unit; none = λ m h other. normalized.none m (omega (arith, ints)) other; others = normalized.others }
+  -- in the degrees that were asked for
+  to_degree : (is : List Integer) → AreIntegers (as_natural f.top) f is → AreIntegers d f is
+  to_degree is are = subst (λ t. AreIntegers (as_natural t) f is) reduced.top are
 
-  -- the integers of the family are one list
-  same_integers : (is : List Integer) → AreIntegers (as_natural f.top) f is → is ≡ integers d f
-  same_integers is are = only d f is (integers d f) (subst (λ t. AreIntegers (as_natural t) f is) reduced.top are) (integers_are d f through_one)
-
-  agrees_too : (k : Kept) → HasIntegers f k → (v : List ℤ) (m : ℤ) → IsCompared d n f v m → Agrees f (integers d f) v m
+  agrees_too : (k : Kept) → HasIntegers f k → (v : List ℤ) (m : ℤ) → IsCompared d n f v m → Agrees f k.integers v m
   agrees_too k has v m c =
-      let compared : IsCompared (as_natural f.top) f.upto f v m = subst (λ t. IsCompared (as_natural t) f.upto f v m) (sym reduced.top) (subst (λ u. IsCompared d u f v m) (sym reduced.upto) c) in
-      subst (λ is. Agrees f is v m) (same_integers k.integers has.are) (has.agrees v m compared)
+      let compared : IsCompared (as_natural f.top) f.upto f v m = subst (λ t. IsCompared (as_natural t) f.upto f v m)
+        (sym reduced.top) (subst (λ u. IsCompared d u f v m) (sym reduced.upto) c) in
+      has.agrees v m compared
 
   report : (k : Kept) (text : List ℕ) → IsPrintedWith f k text → IsIntegersReport w d n text
   report k text printed = record {
     family = f;
     reduced = reduced;
+    integers = k.integers;
+    are = to_degree k.integers printed.integers.are;
+    told = integers_at_classes w d n f suited.graded suited.heights (let least = order.0 in omega (arith, ints)) reduced k.integers
+        (to_degree k.integers printed.integers.are);
     agrees = agrees_too k printed.integers;
-    tells = subst (TellsIntegers d f (integers d f)) (sym printed.same)
-        (subst (λ is. TellsIntegers d f is (gv_text f.heights f.top f.upto (gv_sections f k.integers))) (same_integers k.integers printed.integers.are) (text_tells d f k.integers printed.family reduced.top));
+    tells = subst (TellsIntegers d f k.integers) (sym printed.same) (text_tells d f k.integers printed.family reduced.top);
   }
 
   -- ---- what is told
@@ -109,8 +108,10 @@ module _ (w : Web) (d : ℕ) (n : ℤ) (f : Family ℤ) (suited : IsSuited w) (d
   beyond v m wide = record {
     family = f;
     reduced = reduced;
-    beyond = subst (λ is. limit < majorant d n f is v m) (same_integers wide.integers wide.are)
-        (subst (λ u. limit < majorant d u f wide.integers v m) reduced.upto (subst (λ t. limit < majorant (as_natural t) f.upto f wide.integers v m) reduced.top wide.wide));
+    integers = wide.integers;
+    are = to_degree wide.integers wide.are;
+    beyond = subst (λ u. limit < majorant d u f wide.integers v m) reduced.upto
+        (subst (λ t. limit < majorant (as_natural t) f.upto f wide.integers v m) reduced.top wide.wide);
   }
 
   pub majorant_told : (v : List ℤ) (m : ℤ) (r : Result Answer Failure) → IsTooWide f v m → Says r Wide (majorant_line m v) → IsCarriedOut (Gv d n) w r
@@ -118,13 +119,15 @@ module _ (w : Web) (d : ℕ) (n : ℤ) (f : Family ℤ) (suited : IsSuited w) (d
   majorant_told v m (Err e) wide h = h
 
   difference : (v : List ℤ) (m x y : ℤ) → IsUnequal f v m x y → IsFirstDifference w d n v m x y
-  difference v m x y unequal = let same = same_integers unequal.integers unequal.are in record {
+  difference v m x y unequal = record {
     family = f;
     reduced = reduced;
-    mismatch = subst (λ is. IsMismatch d n f is v m) same
-        (subst (λ u. IsMismatch d u f unequal.integers v m) reduced.upto (subst (λ t. IsMismatch (as_natural t) f.upto f unequal.integers v m) reduced.top unequal.mismatch));
+    integers = unequal.integers;
+    are = to_degree unequal.integers unequal.are;
+    mismatch = subst (λ u. IsMismatch d u f unequal.integers v m) reduced.upto
+        (subst (λ t. IsMismatch (as_natural t) f.upto f unequal.integers v m) reduced.top unequal.mismatch);
     family_has = unequal.family;
-    product_has = unequal.katz ∙ ap (λ is. katz f.heights is v m) same;
+    product_has = unequal.katz;
   }
 
   pub difference_told : (v : List ℤ) (m x y : ℤ) (r : Result Answer Failure) → IsUnequal f v m x y → Says r Differs (differs_line m x y v) → IsCarriedOut (Gv d n) w r

@@ -11,18 +11,23 @@ use Rattle.tv_spec_plane.specs.Web.{Web}
 use Rattle.tv_spec_boxes.specs.Assignments.{no_legs}
 use Rattle.tv_spec_series.specs.Families.{Family, coefficient_of}
 use Rattle.tv_spec_series.specs.ReducedFamilies.{IsReducedFamily}
-use Rattle.tv_spec_katz.specs.Katz.{katz}
-use Rattle.tv_spec_katz.specs.Integers.{integers, IsMismatch}
+use Rattle.tv_spec_katz.specs.Katz.{Integer, katz}
+use Rattle.tv_spec_katz.specs.Integers.{IsMismatch}
+use Rattle.tv_spec_katz.specs.Relations.{AreIntegers}
 use Rattle.tv_spec_katz.specs.Majorant.{majorant}
 
 pub record IsMajorantBeyond (w : Web) (d : ℕ) (upto : ℤ) (v : List ℤ) (m : ℤ) : Type 0 where
   pub family : Family ℤ
   pub reduced : IsReducedFamily wholes w (no_legs w) d upto family
-  pub beyond : 2 ^ 127 - 1 < majorant d upto family (integers d family) v m
+  pub integers : List Integer
+  pub are : AreIntegers d family integers
+  pub beyond : 2 ^ 127 - 1 < majorant d upto family integers v m
 
 pub record IsFirstDifference (w : Web) (d : ℕ) (upto : ℤ) (v : List ℤ) (m series product : ℤ) : Type 0 where
   pub family : Family ℤ
   pub reduced : IsReducedFamily wholes w (no_legs w) d upto family
-  pub mismatch : IsMismatch d upto family (integers d family) v m
+  pub integers : List Integer
+  pub are : AreIntegers d family integers
+  pub mismatch : IsMismatch d upto family integers v m
   pub family_has : series ≡ coefficient_of wholes family v m
-  pub product_has : product ≡ katz family.heights (integers d family) v m
+  pub product_has : product ≡ katz family.heights integers v m
