@@ -1,7 +1,6 @@
 -- The next class of a family, and what follows of reading it.
-use Rattle.std.specs.Prelude.{◌≡◌, ℕ, suc, ◌+◌, ◌*◌, ◌≤◌, ◌<◌, ◌^◌, ℤ, pos, ◌-ℤ◌, ◌+ℤ◌, ◌*ℤ◌, ◌≤ℤ◌, int_le, List, [], ◌∷◌, ◌++◌, length, take, drop, reverse, Bool, true, false, ◌&&◌}
-use Rattle.std.specs.List.{AllByRecursion}
-use Rattle.std.proofs.Common.{refl, sym, ap, subst, arith, ◌∙◌, inl, inr, append-nil, get_or}
+use Rattle.std.specs.Prelude.{◌≡◌, ℕ, suc, ◌+◌, ◌*◌, ◌≤◌, ◌<◌, ◌^◌, ℤ, pos, ◌-ℤ◌, ◌*ℤ◌, ◌≤ℤ◌, int_le, List, [], ◌∷◌, ◌++◌, length, take, drop, reverse, Bool, true, false, ◌&&◌}
+use Rattle.std.proofs.Common.{sym, ap, subst, arith, ◌∙◌, inl, inr, get_or}
 use Rattle.std.proofs.Math.ListN.{drop_of_length-le}
 use Rattle.std.proofs.Math.Seq.{take-suc, drop-cons}
 use Rattle.std.proofs.lemmas.Int.{ints}
@@ -20,7 +19,7 @@ use Rattle.tv_spec_boxes.specs.Classes.{IsBefore}
 use Rattle.tv_spec_series.specs.Families.{Family, coefficient_of}
 use Rattle.tv_spec_katz.specs.Katz.{Integer}
 use Rattle.tv_spec_katz.specs.Relations.{IsPositiveClass}
-use Rattle.tv_spec_katz.specs.Majorant.{majorant, majorant_end, is_counted_class, has_majorant, bound_at, greatest_slope}
+use Rattle.tv_spec_katz.specs.Majorant.{majorant, majorant_end, is_counted_class, has_majorant, greatest_slope}
 use Rattle.tv_laws_integers.specs.Closed.{IsClassTo, IsListed}
 use Rattle.tv_laws_integers.proofs.Proved.{slope_of_series}
 use Rattle.tv_integers.specs.Kept.{Kept}
@@ -67,7 +66,7 @@ unequal-at f u v n m s x p y e h i j at = rw (e, h, i, j) (record {
 })
 
 module _ (f : Family ℤ) (w : ℕ) (vs : List (List ℤ)) (k : ℕ) (kept : Kept) (ls : List ReadClass) (v : List ℤ)
-    (d base : ℕ) (given : IsExtractable f) (low : w ≤ 64) (within : k < length vs) (here : v ≡ get_or vs k v)
+    (d base : ℕ) (given : IsExtractable f) (low : w ≤ 10000) (within : k < length vs) (here : v ≡ get_or vs k v)
     (read : IsReadTo f w vs k kept ls) (degree : pos d ≡ degree_of f.heights v) (place : base ≡ w * d) where
   abbrev g : Way
   g = way_at f w vs k kept.integers
@@ -95,8 +94,8 @@ module _ (f : Family ℤ) (w : ℕ) (vs : List (List ℤ)) (k : ℕ) (kept : Kep
   base-low : base ≤ w * degree_to f
   base-low = rw place (mul-le w d w (degree_to f) (omega arith) degree-low)
 
-  last-low : w * degree_to f ≤ 64 * 24
-  last-low = mul-le w (degree_to f) 64 24 low top-low
+  last-low : w * degree_to f ≤ 10000 * 24
+  last-low = mul-le w (degree_to f) 10000 24 low top-low
 
   pub base-small : base < 2 ^ 31
   base-small = let a = base-low in let b = last-low in omega arith
@@ -174,12 +173,12 @@ module _ (f : Family ℤ) (w : ℕ) (vs : List (List ℤ)) (k : ℕ) (kept : Kep
   fault-is (ClassWide t) (Wide u n) wide at_weight =
       too-wide f u v n _ at_weight.0 (at_weight.1 ∙ ap (λ x. pos t -ℤ x) base-is) wide
   fault-is (ClassWide t) (Mismatch u n x y) wide at_weight = absurd at_weight
-  fault-is (ClassWide t) Memory wide at_weight = tt
+  fault-is (ClassWide t) Memory wide at_weight = absurd at_weight
   fault-is (Differ x) (Wide u n) unequal at_weight = absurd at_weight
   fault-is (Differ x) (Mismatch u n s p) unequal at_weight =
       unequal-at f u v n _ s x.series p x.product at_weight.0 (at_weight.1 ∙ ap (λ y. pos x.weight -ℤ y) base-is)
       at_weight.2 at_weight.3 unequal
-  fault-is (Differ x) Memory unequal at_weight = tt
+  fault-is (Differ x) Memory unequal at_weight = absurd at_weight
   fault-is ClassMemory (Wide u n) none at_weight = absurd at_weight
   fault-is ClassMemory (Mismatch u n x y) none at_weight = absurd at_weight
   fault-is ClassMemory Memory none at_weight = tt

@@ -5,7 +5,7 @@
 -- zero-read         the line of class zero, without integers
 -- known-beyond      the family is 0 beyond its exponent
 -- begins-way        no class is read yet
-use Rattle.std.specs.Prelude.{◌≡◌, ◌≢◌, ℕ, zero, suc, ◌+◌, ◌*◌, ◌≤◌, ℤ, pos, negsuc, ◌-ℤ◌, ◌+ℤ◌, ◌*ℤ◌, ◌<ℤ◌, ◌≤ℤ◌, unsigned_abs, slice_get, List, [], ◌∷◌, ◌++◌, length, Option, Some, None}
+use Rattle.std.specs.Prelude.{◌≡◌, ℕ, zero, suc, ◌+◌, ◌*◌, ◌≤◌, ℤ, pos, negsuc, ◌*ℤ◌, ◌<ℤ◌, ◌≤ℤ◌, unsigned_abs, slice_get, List, [], ◌∷◌, ◌++◌, length, Option, Some, None}
 use Rattle.std.specs.List.{AllByRecursion, IsDistinct}
 use Rattle.std.proofs.Common.{refl, sym, ap, arith, ◌∙◌}
 use Rattle.std.proofs.Math.IntN.{*ℤ-zero}
@@ -37,7 +37,7 @@ use Rattle.tv_laws_integers.proofs.Steps.{begun_none}
 use Rattle.tv_recurrence.specs.KatzParts.{katz_by_weight}
 use Rattle.tv_recurrence.specs.Products.{exponent_at}
 use Rattle.tv_candidates.specs.Closing.{entries_by_degree, HasSmallEntries as CandidateEntries}
-use Rattle.tv_class_parts.specs.Tables.{IsReadClass, IsTable}
+use Rattle.tv_class_parts.specs.Tables.{IsReadClass}
 use Rattle.tv_class_parts.specs.Progress.{IsUnderWay}
 use Rattle.tv_gv.specs.Extracted.{IsExtractable, HasSmallEntries, degree_to}
 use Rattle.tv_gv.specs.Progress.{last_weight, IsSlope, zero_line}

@@ -8,7 +8,7 @@
 -- IsLastPlace hs v g is == an integer of the class v and the genus g comes later than all of the list
 -- IsLastClass hs v is == the class v comes after those of the list
 -- IsWeightBelow fault == its weight is below 2^31
--- IsAtWeight v base fault result == the fault at the class v, with the exponent for the weight, or want of memory
+-- IsAtWeight v base fault result == the fault at the class v, with the exponent for the weight
 use Rattle.std.specs.Prelude.{◌≡◌, ◌⊎◌, ⊤, ℕ, suc, ◌+◌, ◌*◌, ◌≤◌, ◌<◌, ◌^◌, ℤ, pos, ◌-ℤ◌, List, [], ◌∷◌, length, take, drop}
 use Rattle.std.specs.List.{AllByRecursion}
 use Rattle.tv_lemmas.specs.Naturals.{as_natural}
@@ -16,7 +16,6 @@ use Rattle.tv_spec_boxes.specs.Assignments.{zeros}
 use Rattle.tv_spec_boxes.specs.Classes.{IsBefore}
 use Rattle.tv_spec_series.specs.Families.{Family}
 use Rattle.tv_spec_katz.specs.Katz.{Integer}
-use Rattle.tv_spec_katz.specs.Relations.{ComesLater}
 use Rattle.tv_laws_integers.specs.Reading.{BeginsAbove}
 use Rattle.tv_integers.specs.Kept.{Kept}
 use Rattle.tv_class_parts.specs.declared.fault.ClassFault.{ClassFault}
@@ -69,5 +68,5 @@ abbrev pub IsAtWeight : List ℤ → ℕ → ClassFault → GvFault → Type 0
 IsAtWeight v base (ClassWide t) (Wide u n) = (u ≡ v) × (n ≡ pos t -ℤ pos base)
 IsAtWeight v base (Differ d) (Mismatch u n series product) =
     (u ≡ v) × (n ≡ pos d.weight -ℤ pos base) × (series ≡ d.series) × (product ≡ d.product)
-IsAtWeight v base fault Memory = ⊤
+IsAtWeight v base ClassMemory Memory = ⊤
 IsAtWeight v base fault other = ⊥

@@ -30,10 +30,10 @@ fn degree_in(reduced: &Graded<Whole>, class: &Class) -> u64
 
 // The weight of the exponent 0 at a class of that degree.
 fn base_of(slope: u64, degree: u64) -> usize
-    requires slope { slope ≤ 64 }
+    requires slope { slope ≤ 10000 }
     requires degree { degree ≤ 24 }
     ensures value { result ≡ slope * degree }
-    ensures small { result ≤ 1536 }
+    ensures small { result ≤ 240000 }
 {
     (slope * degree) as usize
 }
@@ -50,33 +50,30 @@ fn last_exponent(reduced: &Graded<Whole>) -> usize
 // The last weight: that of the last exponent at the greatest degree.
 fn last_weight(reduced: &Graded<Whole>, slope: u64) -> usize
     requires extractable { IsExtractable reduced.now }
-    requires low { slope ≤ 64 }
+    requires low { slope ≤ 10000 }
     ensures value { result ≡ last_weight reduced.now slope }
 {
     last_exponent(reduced) + (slope * reduced.top() as u64) as usize
 }
 
 // The fault of a class, with its exponent for the weight.
-fn fault_at(class: &Class, base: usize, fault: ClassFault) -> GvFault
+fn fault_at(class: Class, base: usize, fault: ClassFault) -> GvFault
     requires base { base < 2 ^ 31 }
     requires weight { IsWeightBelow fault }
-    ensures value { IsAtWeight class.now base fault result }
+    ensures value { IsAtWeight class base fault result }
 {
-    match class.copy() {
-        Ok(class) => match fault {
-            ClassFault::Wide(weight) => GvFault::Wide {
-                class,
-                exponent: exponent_of(weight, base),
-            },
-            ClassFault::Differ(d) => GvFault::Mismatch {
-                class,
-                exponent: exponent_of(d.weight, base),
-                series: d.series,
-                product: d.product,
-            },
-            ClassFault::Memory => GvFault::Memory,
+    match fault {
+        ClassFault::Wide(weight) => GvFault::Wide {
+            class,
+            exponent: exponent_of(weight, base),
         },
-        Err(_) => GvFault::Memory,
+        ClassFault::Differ(d) => GvFault::Mismatch {
+            class,
+            exponent: exponent_of(d.weight, base),
+            series: d.series,
+            product: d.product,
+        },
+        ClassFault::Memory => GvFault::Memory,
     }
 }
 
@@ -93,7 +90,7 @@ pub fn next_line(
     ghost way: { Way }
     requires now { way ≡ way_at reduced.now slope classes.now k integers.old.integers }
     requires extractable { IsExtractable reduced.now }
-    requires low { slope ≤ 64 }
+    requires low { slope ≤ 10000 }
     requires within { k < length classes.now }
     requires way { IsReadTo reduced.now slope classes.now k integers.old lines.now }
     ensures way { IfOk result (λ line. IsReadTo reduced.now slope classes.now (k + 1) integers.new (lines.now ++ line ∷ [])) }
@@ -110,6 +107,6 @@ pub fn next_line(
             put_values(integers, class, base, &read.values)?;
             Ok(read.line)
         }
-        Err(fault) => Err(fault_at(class, base, fault)),
+        Err(fault) => Err(fault_at(class.copy()?, base, fault)),
     }
 }

@@ -15,8 +15,8 @@ use tv_integers::Integers;
 use tv_lattice::class::Class;
 use tv_ring::Whole;
 
-/// An integer beyond this slope has a genus of 66 or more.
-const GREATEST_SLOPE: u64 = 64;
+/// Series that begin more steeply would take rows of more than 240,000 numbers, at a genus of more than 10,000.
+const GREATEST_SLOPE: u64 = 10_000;
 
 /// The integers of a family of reduced series, to its greatest degree, if Katz's product over them agrees with the family
 /// through its exponent.
@@ -42,7 +42,7 @@ fn read_classes(
     classes: &[Class],
 ) -> Result<Integers, GvFault>
     requires extractable { IsExtractable reduced.now }
-    requires low { slope ≤ 64 }
+    requires low { slope ≤ 10000 }
     requires slope { IsSlope reduced.now slope }
     requires closed { IsClosedList (degree_to reduced.now) reduced.now classes.now }
     ensures value { IfOk result (λ integers. HasIntegers reduced.now integers) }

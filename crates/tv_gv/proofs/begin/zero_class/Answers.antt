@@ -1,4 +1,4 @@
-use Rattle.std.proofs.Common.{rules, pos, length, ap, ◌∙◌, arith}
+use Rattle.std.proofs.Common.{rules, pos, length}
 use Rattle.tv_spec_boxes.specs.Assignments.{zeros}
 use Rattle.tv_gv.proofs.Zero.{some-row, first-entries}
 use Rattle.tv_gv.proofs.begin.zero_class.Goals as goal

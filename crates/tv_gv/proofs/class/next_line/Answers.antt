@@ -1,6 +1,5 @@
-use Rattle.std.proofs.Common.{refl, ap, length, ◌+◌, ◌*◌, ◌∙◌, arith}
-use Rattle.std.proofs.lemmas.Int.{ints}
-use Rattle.tv_gv.proofs.Reading.{base-small, given-is, class-positive, last-class, values-count, read-next, weight-below, fault-is}
+use Rattle.std.proofs.Common.{ap, length, ◌+◌, ◌∙◌}
+use Rattle.tv_gv.proofs.Reading.{given-is, class-positive, last-class, values-count, read-next, weight-below, fault-is}
 use Rattle.tv_gv.proofs.class.next_line.Goals as goal
 
 pub read_class-requires : goal.read_class-requires
@@ -44,3 +43,11 @@ fault_at-requires-clause-weight g c =
     c.degree_in-degree.result c.base_of-base.result c.requires.1.0 c.requires.1.1.0 c.requires.1.1.1.0
     c.index-classes-k.is c.requires.1.1.1.1 c.degree_in-degree.ensures.value c.base_of-base.ensures.value
     c.in-Err.fault (rw c.requires.0 at c.in-Err.ensures.fault)
+
+pub returns-clause-fault : goal.returns-clause-fault
+returns-clause-fault g c =
+    fault-is c.args.reduced.now c.args.slope c.args.classes.now c.args.k c.args.integers.now c.args.lines.now c.index-classes-k.result
+    c.degree_in-degree.result c.base_of-base.result c.requires.1.0 c.requires.1.1.0 c.requires.1.1.1.0
+    c.index-classes-k.is c.requires.1.1.1.1 c.degree_in-degree.ensures.value c.base_of-base.ensures.value
+    c.in-Err.fault c.fault_at.result (rw c.requires.0 at c.in-Err.ensures.fault)
+    (rw c.in_ok-copy-in-Err.ensures.value at c.fault_at.ensures.value)

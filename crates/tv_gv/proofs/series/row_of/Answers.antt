@@ -1,4 +1,4 @@
-use Rattle.std.proofs.Common.{pos, ◌-ℤ◌, w64, ap, ◌∙◌, arith}
+use Rattle.std.proofs.Common.{pos, ◌-ℤ◌, w64, arith}
 use Rattle.std.proofs.lemmas.Int.{ints, to_z-of_z}
 use Rattle.tv_lattice.proofs.Sums.{small-fits}
 use Rattle.tv_ring.specs.Whole.{wholes}
