@@ -83,7 +83,7 @@ module _ (w : Web) (d : ℕ) (n : ℤ) (f : Family ℤ) (suited : IsSuited w) (d
   agrees_too : (k : Kept) → HasIntegers f k → (v : List ℤ) (m : ℤ) → IsCompared d n f v m → Agrees f k.integers v m
   agrees_too k has v m c =
       let compared : IsCompared (as_natural f.top) f.upto f v m = subst (λ t. IsCompared (as_natural t) f.upto f v m)
-        (sym reduced.top) (subst (λ u. IsCompared d u f v m) (sym reduced.upto) c) in
+      (sym reduced.top) (subst (λ u. IsCompared d u f v m) (sym reduced.upto) c) in
       has.agrees v m compared
 
   report : (k : Kept) (text : List ℕ) → IsPrintedWith f k text → IsIntegersReport w d n text
