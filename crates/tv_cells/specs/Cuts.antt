@@ -23,5 +23,7 @@ unfoldable pub leaves_gap : Legs → List Cell → Cell → Bool
 leaves_gap legs chosen c = nat_eq (legs_at legs c) 0 && list_any (same (cell (c.x + 1) c.y c.z)) chosen
 
 pub record CutsDropNone : Type 0 where
-  pub refused : (legs : Legs) (chosen : List Cell) (c : Cell) (cells : List Cell) (n : ℕ) → rises (chosen ++ c ∷ cells) ≡ true → enters legs chosen c ≡ false → extras_after legs (chosen ++ c ∷ []) cells n ≡ []
-  pub gap : (legs : Legs) (chosen : List Cell) (c : Cell) (cells : List Cell) (n : ℕ) → rises (chosen ++ c ∷ cells) ≡ true → leaves_gap legs chosen c ≡ true → extras_after legs chosen cells n ≡ []
+  pub refused : (legs : Legs) (chosen : List Cell) (c : Cell) (cells : List Cell) (n : ℕ) → rises (chosen ++ c ∷ cells) ≡ true
+      → enters legs chosen c ≡ false → extras_after legs (chosen ++ c ∷ []) cells n ≡ []
+  pub gap : (legs : Legs) (chosen : List Cell) (c : Cell) (cells : List Cell) (n : ℕ) → rises (chosen ++ c ∷ cells) ≡ true
+      → leaves_gap legs chosen c ≡ true → extras_after legs chosen cells n ≡ []

@@ -21,7 +21,8 @@ abbrev pub SublistsByLength : Type 0
 SublistsByLength = (n : ℕ) (cells : List Cell) → filter (λ s. nat_eq (length s) n) (sublists cells) ≡ sublists_of n cells
 
 abbrev pub ExtrasByLength : Type 0
-ExtrasByLength = (legs : Legs) (n : ℕ) (cells : List Cell) → filter (λ s. is_extras legs s && nat_eq (length s) n) (sublists cells) ≡ filter (is_extras legs) (sublists_of n cells)
+ExtrasByLength = (legs : Legs) (n : ℕ) (cells : List Cell)
+    → filter (λ s. is_extras legs s && nat_eq (length s) n) (sublists cells) ≡ filter (is_extras legs) (sublists_of n cells)
 
 abbrev pub CubeRises : Type 0
 CubeRises = (n : ℕ) → rises (cube n) ≡ true

@@ -18,16 +18,13 @@ use Rattle.tv_degrees.proofs.Entries.{length-edge_class}
 use Rattle.tv_laws_counts.proofs.Choices.{HasSize, diagrams_are}
 use Rattle.tv_class_assignments.specs.Remaining.{Left, less}
 use Rattle.tv_class_assignments.specs.Walk.{with_left, with_diagrams, beside_on}
+use Rattle.tv_lemmas.proofs.Tests.{never}
 
 both_ways : (p q : Bool) → (p ≡ true → q ≡ true) → (q ≡ true → p ≡ true) → p ≡ q
 both_ways true true h k = refl
 both_ways true false h k = sym (h refl)
 both_ways false true h k = k refl
 both_ways false false h k = refl
-
-never : (b : Bool) → (b ≡ true → ⊥) → b ≡ false
-never true h = absurd (h refl)
-never false h = refl
 
 -- ---- the first edge
 

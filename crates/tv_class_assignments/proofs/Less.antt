@@ -12,6 +12,8 @@ use Rattle.tv_lemmas.proofs.Members.{all-onto}
 use Rattle.tv_lattice.specs.Classes.{IsEntry, IsEntries}
 use Rattle.tv_spec_boxes.specs.Assignments.{zeros, same_vector}
 use Rattle.tv_class_assignments.specs.Remaining.{Left, less, beside, IsWithin, IsLeft}
+use Rattle.tv_lemmas.proofs.Tests.{never}
+use Rattle.tv_laws_counts.proofs.Choices.{times-more}
 
 -- ---- one after the other
 
@@ -50,10 +52,6 @@ less-within n p d [] u few fits low entries within = tt
 less-within n p d (x ∷ v) [] few fits low entries within = tt
 less-within n p d (x ∷ v) (y ∷ u) few fits low entries within = (one-within n p d x y few fits low entries.0 within.0, less-within n p d v u few fits low entries.1 within.1)
 
-times-more : (n g : ℕ) → 0 < g → n ≤ n * g
-times-more n zero h = absurd (omega arith)
-times-more n (suc g) h = omega arith
-
 pub beside-left : (n g : ℕ) (v : List ℤ) (l : Left) → 0 < g → n * g ≤ l.degree → length v ≡ length l.class → IsEntries v → IsLeft l → IsLeft (beside n g v l)
 beside-left n g v l positive fits same entries known = record {
   low = (let h = known.low in omega arith);
@@ -74,10 +72,6 @@ pub whole-left : (d : ℕ) (v : List ℤ) → d ≤ 24 → IsEntries v → IsLef
 whole-left d v low entries = record { low = low; few = entries.few; small = all-onto IsEntry (IsWithin d) (entry-within d low) v entries.small }
 
 -- ---- none is left
-
-never : (b : Bool) → (b ≡ true → ⊥) → b ≡ false
-never true h = absurd (h refl)
-never false h = refl
 
 pub zero-next : (v : List ℤ) (k : ℕ) → k < length v → get_or v k (pos 0) ≡ pos 0 → same_vector (zeros (length (drop (k + 1) v))) (drop (k + 1) v) ≡ same_vector (zeros (length (drop k v))) (drop k v)
 zero-next v k h none = rw (add-one, drop-cons v k (pos 0) h, none) refl

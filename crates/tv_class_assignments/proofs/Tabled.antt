@@ -12,6 +12,7 @@ use Rattle.tv_class_assignments.specs.Remaining.{Left}
 use Rattle.tv_class_assignments.specs.Tables.{AreSizes, IsPast, AreLast, AreTables, IsStuck}
 use Rattle.tv_class_assignments.specs.Walk.{with_left}
 use Rattle.tv_class_assignments.proofs.Lefts.{IsUntouched, with_left-stuck}
+use Rattle.tv_assignment.proofs.Written.{size_read}
 
 untouched_from : (w : Web) (p : ℕ) (es : List CompactEdge) (k : ℕ) → ((i : ℕ) → k ≤ i → i < length es → IsUntouched w p (get_or es i no_edge)) → AllByRecursion (IsUntouched w p) (drop k es)
 untouched_from w p [] zero none = tt
@@ -38,6 +39,3 @@ lasts-next w last more k n pushed is past before = subst (AreLast w) (sym pushed
 
     each : (p : ℕ) → p < length last + 1 → IsPast w p (slice_index_or (last ++ k ∷ []) p 0)
     each = below_more (λ p. IsPast w p (slice_index_or (last ++ k ∷ []) p 0)) (length last) there here
-
-pub size_read : (sizes : List ℕ) (k x : ℕ) → k < length sizes → x ≡ get_or sizes k x → AreSizes sizes → x ≡ k
-size_read sizes k x h read are = get_or_read sizes k x h read 0 ∙ are k h

@@ -33,6 +33,7 @@ use Rattle.tv_class_integers.specs.Powers.{added}
 use Rattle.tv_class_integers.specs.Readings.{genus_at}
 use Rattle.tv_class_integers.specs.ClassIntegers.{onto, IsAtBase, FirstOrder, FirstOrderSizes}
 use Rattle.tv_class_integers.proofs.OwnPowers.{lead_by, own-added, added-none, IsByPower}
+use Rattle.tv_laws_katz.proofs.GatheredTerms.{power_size}
 
 pub onto-none : (v : List ℤ) (g : ℕ) (x : ℤ) (is : List Integer) → x ≡ pos 0 → with_integer v g x is ≡ is
 onto-none v g x is e = let on = (Decides-int_eq x (pos 0)).1 e in rw on refl
@@ -60,11 +61,8 @@ slope-onto hs w v base is (x ∷ xs) here slope =
           (record { positive = degree; slope = omega (arith, ints) }, rest)
     ]
 
-abbrev signed : Factor → ℤ
+abbrev pub signed : Factor → ℤ
 signed f = neg_ℤ f.power
-
-abbrev sized : Factor → ℤ
-sized f = pos (unsigned_abs f.power)
 
 lead-signed : (fs : List Factor) (p : Place) → lead fs p ≡ lead_by signed fs p
 lead-signed [] p = refl
@@ -75,7 +73,7 @@ lead-signed (f ∷ fs) p =
 size-one : (z : ℤ) → power_at (neg_ℤ (pos (unsigned_abs z))) 1 ≡ pos (unsigned_abs z)
 size-one z = power_at-one (neg_ℤ (pos (unsigned_abs z))) ∙ omega (arith, ints)
 
-lead-sized : (fs : List Factor) (p : Place) → lead (map without_sign fs) p ≡ lead_by sized fs p
+lead-sized : (fs : List Factor) (p : Place) → lead (map without_sign fs) p ≡ lead_by power_size fs p
 lead-sized [] p = refl
 lead-sized (f ∷ fs) p =
     ap (λ z. (z *ℤ unit (difference p f.at)) +ℤ lead (map without_sign fs) p) (size-one f.power) ∙
@@ -84,7 +82,7 @@ lead-sized (f ∷ fs) p =
 by-signed : (hs : List ℤ) (i : Integer) → IsByPower hs i signed neg_ℤ
 by-signed hs i = record { value = λ m e. refl; none = refl }
 
-by-sized : (hs : List ℤ) (i : Integer) → IsByPower hs i sized (λ e. pos (unsigned_abs e))
+by-sized : (hs : List ℤ) (i : Integer) → IsByPower hs i power_size (λ e. pos (unsigned_abs e))
 by-sized hs i = record { value = λ m e. refl; none = refl }
 
 module _ (hs : List ℤ) (w : ℕ) (v : List ℤ) (base : ℕ) (here : IsAtBase hs w v base) (js : List Integer) (x : ℤ) (s g t : ℕ)
@@ -122,7 +120,7 @@ module _ (hs : List ℤ) (w : ℕ) (v : List ℤ) (base : ℕ) (here : IsAtBase 
   sizes-one =
       let n = exponent_at hs w v t in
       let parts = first_order (map without_sign (factors_by hs g t new)) (map without_sign (factors hs t js)) p high-sized in
-      let own = own-added hs new sized (λ e. pos (unsigned_abs e)) (by-sized hs new) base s t n weight-is g t refl
+      let own = own-added hs new power_size (λ e. pos (unsigned_abs e)) (by-sized hs new) base s t n weight-is g t refl
       (omega arith) room in
       product-absolute hs w (new ∷ js) v n t slope (omega (arith, ints, place-weight hs w v t)) ∙
       (ap (λ fs. product fs p) (map-append without_sign (factors_by hs g t new) (factors hs t js)) ∙

@@ -19,12 +19,7 @@ use Rattle.tv_laws_katz.proofs.Totals.{when-on, when-off}
 use Rattle.tv_laws_series.proofs.Listed.{at_past}
 use Rattle.tv_recurrence.specs.declared.part.Power.{Power}
 use Rattle.tv_recurrence.specs.Products.{power_by, same_step}
-
-eq-on : (r s : ℕ) → r ≡ s → nat_eq r s ≡ true
-eq-on r s h = grind (arith, nat_tests)
-
-eq-off : (r s : ℕ) → (r ≡ s → ⊥) → nat_eq r s ≡ false
-eq-off r s h = grind (arith, nat_tests)
+use Rattle.tv_lemmas.proofs.Tests.{eq-on, eq-off}
 
 pub record IsListedTo (powers : List ℤ) (i : ℕ) (list : List Power) : Type 0 where
   pub below : AllByRecursion (λ f. f.step < i) list

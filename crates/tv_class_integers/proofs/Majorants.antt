@@ -29,7 +29,7 @@ use Rattle.tv_spec_katz.specs.Majorant.{without_sign, absolute_product, counted,
 use Rattle.tv_laws_katz.specs.Weights.{weight, IsWithinSlope}
 use Rattle.tv_laws_katz.proofs.LargerBound.{product-absolute}
 use Rattle.tv_laws_katz.proofs.Powers.{power_at-zero, power_at-negsuc, power_sign-size}
-use Rattle.tv_laws_katz.proofs.TermSizes.{size_of_product, size_of_katz}
+use Rattle.tv_laws_katz.proofs.TermSizes.{size_of_product, size_of_katz, power-up, product-up}
 use Rattle.tv_laws_integers.specs.Closed.{IsClassTo}
 use Rattle.tv_laws_integers.proofs.Slopes.{slopes-least}
 use Rattle.tv_recurrence.specs.KatzParts.{katz_by_weight}
@@ -39,20 +39,12 @@ use Rattle.tv_class_integers.specs.NextClasses.{series_by_weight, class_readings
 use Rattle.tv_class_integers.proofs.FirstOrder.{first_order_sizes}
 use Rattle.tv_class_integers.proofs.NextClass.{at-base, slopes}
 use Rattle.tv_class_integers.proofs.Readings.{length-readings}
+use Rattle.tv_lemmas.proofs.Tests.{eq-on, most-true}
 
 sum-first : (F : ℕ → ℤ) (m : ℕ) → ((k : ℕ) → pos 0 ≤ℤ F k) → F 0 ≤ℤ sum_below F (suc m)
 unfolding sum_below
 sum-first F zero up = omega (arith, ints)
 sum-first F (suc m) up = omega (arith, ints, sum-first F m up, up (suc m))
-
-power-up : (m k : ℕ) → pos 0 ≤ℤ power_at (neg_ℤ (pos m)) k
-unfolding power_at binomial choose
-power-up zero zero = omega (arith, ints)
-power-up zero (suc k) = let none = *ℤ-zero (power_sign (suc k)) in omega (arith, ints)
-power-up (suc m) k = rw (power_at-negsuc m k) (omega (arith, ints))
-
-product-up : (fs : List Factor) (p : Place) → pos 0 ≤ℤ product (map without_sign fs) p
-product-up fs p = omega (arith, ints, size_of_product fs p)
 
 module _ (f : Factor) (fs : List Factor) (p : Place) where
   abbrev term : ℕ → ℤ
@@ -89,35 +81,29 @@ absolute-more hs w (i ∷ more) is v n slope =
     let step = product-front (factors_by hs i.genus J i) (factors hs J (more ++ is)) (place hs v n) in
     omega (arith, ints, absolute-more hs w more is v n slope.1, first, second, step)
 
-at_most_true : (a b : ℤ) → a ≤ℤ b → int_le a b ≡ true
-at_most_true a b h = grind (arith, ints)
-
 above_false : (a b : ℤ) → b <ℤ a → int_le a b ≡ false
 above_false a b h = grind (arith, ints)
-
-same_true : (a b : ℕ) → a ≡ b → nat_eq a b ≡ true
-same_true a b e = grind (arith, nat_tests)
 
 counts : (D : ℕ) (hs v : List ℤ) → IsClassTo D hs v → is_counted_class D hs v ≡ true
 counts D hs v class =
     let up = class.positive.degree in
-    let entries : nat_eq (length v) (length hs) ≡ true = same_true (length v) (length hs) class.positive.entries in
-    let least : int_le (pos 0) (degree_of hs v) ≡ true = at_most_true (pos 0) (degree_of hs v) (omega (arith, ints)) in
-    rw (entries, least) (at_most_true (degree_of hs v) (pos D) class.within)
+    let entries : nat_eq (length v) (length hs) ≡ true = eq-on (length v) (length hs) class.positive.entries in
+    let least : int_le (pos 0) (degree_of hs v) ≡ true = most-true (pos 0) (degree_of hs v) (omega (arith, ints)) in
+    rw (entries, least) (most-true (degree_of hs v) (pos D) class.within)
 
 majorant-is : (D : ℕ) (N : ℤ) (f : Family ℤ) (js : List Integer) (v : List ℤ) (n : ℤ) → IsClassTo D f.heights v →
     n ≤ℤ majorant_end D N f js → majorant D N f js v n ≡ bound_at N f js v n
 unfolding majorant
 majorant-is D N f js v n class h =
     let count = counts D f.heights v class in
-    let ends : int_le n (majorant_end D N f js) ≡ true = at_most_true n (majorant_end D N f js) h in
+    let ends : int_le n (majorant_end D N f js) ≡ true = most-true n (majorant_end D N f js) h in
     rw (count, ends) refl
 
 counted-is : (f : Family ℤ) (N : ℤ) (v : List ℤ) (n : ℤ) → (N <ℤ n → coefficient_of wholes f v n ≡ pos 0) →
     unsigned_abs (coefficient_of wholes f v n) ≡ counted f N v n
 counted-is f N v n known = by_lt_z N n
     (λ past. let off = above_false n N past in rw off (ap unsigned_abs (known past)))
-    (λ near. let on = at_most_true n N near in rw on refl)
+    (λ near. let on = most-true n N near in rw on refl)
 
 twice-least : (d a : ℕ) → 1 ≤ d → a ≤ (2 * d) * a
 twice-least zero a h = absurd (omega arith)

@@ -21,6 +21,8 @@ use Rattle.tv_spec_katz.specs.Katz.{Integer, factor_at, genus_zero, higher_below
 use Rattle.tv_laws_katz.proofs.Powers.{choose-whole, choose-beyond, power_sign-same}
 use Rattle.tv_laws_katz.proofs.Units.{unit-one, unit-none}
 use Rattle.tv_class_integers.specs.Powers.{power_of, added}
+use Rattle.tv_lemmas.proofs.Tests.{below-on, below-off}
+use Rattle.tv_laws_katz.proofs.FurtherInteger.{zero-class}
 
 pub choose-mirror : (n a b : ℕ) → n ≡ a + b → choose n a ≡ choose n b
 unfolding choose
@@ -36,12 +38,6 @@ choose-mirror (suc n) (suc a) (suc b) e = omega (
   choose-mirror n (suc a) b
       (omega arith),
 )
-
-zero-class : (v : List ℤ) → is_zero_class (class_difference v v) ≡ true
-zero-class [] = refl
-zero-class (x ∷ v) =
-    let none : x -ℤ x ≡ pos 0 = omega (arith, ints) in
-    rw (none, zero-class v) refl
 
 abbrev pub lead_by : (Factor → ℤ) → List Factor → Place → ℤ
 lead_by c [] p = pos 0
@@ -94,12 +90,6 @@ zero-rows hs (suc J) i = ap (λ fs. factor_at hs i (pos (suc J)) (pos (suc J) *�
 higher-rows : (hs : List ℤ) (N : ℕ) (i : Integer) → higher_below hs N i ≡ rows hs i (higher_exponent i) (higher_power i) N
 higher-rows hs zero i = refl
 higher-rows hs (suc k) i = ap (λ fs. factor_at hs i (higher_exponent i k) (higher_power i k) ∷ fs) (higher-rows hs k i)
-
-below-on : (t s : ℕ) → t < s → nat_lt t s ≡ true
-below-on t s h = grind (arith, nat_tests)
-
-below-off : (t s : ℕ) → s ≤ t → nat_lt t s ≡ false
-below-off t s h = grind (arith, nat_tests)
 
 pub added-early : (s g : ℕ) (x : ℤ) (t : ℕ) → t < s → added s g x t ≡ pos 0
 added-early s g x t h = rw (below-on t s h) refl

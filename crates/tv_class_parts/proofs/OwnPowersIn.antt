@@ -22,13 +22,13 @@ use Rattle.tv_spec_katz.specs.Product.{Factor}
 use Rattle.tv_spec_katz.specs.Katz.{Integer, factor_at, factors_by, factors}
 use Rattle.tv_laws_katz.specs.Logarithm.{when}
 use Rattle.tv_laws_katz.specs.Gathered.{power_in}
-use Rattle.tv_laws_katz.proofs.FurtherInteger.{IsFactorOf, factors-are}
+use Rattle.tv_laws_katz.proofs.FurtherInteger.{IsFactorOf, factors-are, zero-class}
 use Rattle.tv_laws_katz.proofs.Totals.{total-none, when-on, when-off}
 use Rattle.tv_laws_katz.proofs.Units.{unit-one, unit-none}
 use Rattle.tv_class_integers.specs.Powers.{added}
 use Rattle.tv_class_integers.specs.Readings.{genus_at, power_sum}
 use Rattle.tv_class_integers.specs.ClassIntegers.{onto}
-use Rattle.tv_class_integers.proofs.FirstOrder.{onto-none, onto-one, zero-cases}
+use Rattle.tv_class_integers.proofs.FirstOrder.{onto-none, onto-one, zero-cases, signed}
 use Rattle.tv_class_integers.proofs.OwnPowers.{lead_by, own-added, added-none}
 
 pub powers-append : (fs gs : List Factor) (B : List ℤ) (m : ℤ) → power_in (fs ++ gs) B m ≡ power_in fs B m +ℤ power_in gs B m
@@ -58,15 +58,6 @@ powers-apart hs T (i ∷ is) B m apart =
     powers-split hs T i is B m ∙ omega (arith, ints, powers-other hs T i B m apart.0, powers-apart hs T is B m apart.1)
 
 -- at the own class
-abbrev signed : Factor → ℤ
-signed f = neg_ℤ f.power
-
-zero-class : (v : List ℤ) → is_zero_class (class_difference v v) ≡ true
-zero-class [] = refl
-zero-class (x ∷ v) =
-    let none : x -ℤ x ≡ pos 0 = omega (arith, ints) in
-    rw (none, zero-class v) refl
-
 at-here : (hs : List ℤ) (i : Integer) (n m e : ℤ) →
     neg_ℤ e *ℤ unit (difference (place hs i.class n) (place hs i.class m)) ≡ neg_ℤ (when (int_eq m n) e)
 at-here hs i n m e = elim (cases_Bool (int_eq m n)) [

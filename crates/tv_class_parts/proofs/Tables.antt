@@ -46,58 +46,11 @@ use Rattle.tv_class_parts.specs.Tables.{IsReadClass, IsTable, IsBeforeClass, IsA
 use Rattle.tv_class_parts.proofs.ClassesAfter.{length-after, degree-after}
 use Rattle.tv_class_parts.proofs.Lookups.{find-cases}
 use Rattle.tv_class_parts.proofs.OwnPowersIn.{powers-onto, powers-onto_other}
+use Rattle.tv_laws_integers.proofs.Elsewhere.{zero_class_is, plus-difference, zero-difference, HasPlace, product-elsewhere}
+use Rattle.tv_laws_integers.proofs.Existence.{back_rises}
+use Rattle.tv_recurrence.proofs.TakenRows.{at-empty}
 
 -- ---- classes outside a closed list
-
-zero_class_is : (v : List ℤ) → is_zero_class v ≡ true → v ≡ zeros (length v)
-zero_class_is [] h = refl
-zero_class_is (x ∷ v) h =
-    let parts = and_parts (int_eq x (pos 0)) (is_zero_class v) h in
-    ap (λ z. z ∷ v) ((Decides-int_eq x (pos 0)).0 parts.0) ∙ ap (λ w. pos 0 ∷ w) (zero_class_is v parts.1)
-
-plus-difference : (v x : List ℤ) → length v ≡ length x → plus (class_difference v x) x ≡ v
-plus-difference [] [] e = refl
-plus-difference [] (y ∷ x) e = absurd (omega arith)
-plus-difference (z ∷ v) [] e = absurd (omega arith)
-plus-difference (z ∷ v) (y ∷ x) e = let back : (z -ℤ y) +ℤ y ≡ z = omega (arith, ints) in
-    rw (back, plus-difference v x (omega arith)) refl
-
-zero-difference : (v x : List ℤ) → length v ≡ length x → is_zero_class (class_difference v x) ≡ true → v ≡ x
-zero-difference [] [] e h = refl
-zero-difference [] (y ∷ x) e h = absurd (omega arith)
-zero-difference (z ∷ v) [] e h = absurd (omega arith)
-zero-difference (z ∷ v) (y ∷ x) e h =
-    let parts = and_parts (int_eq (z -ℤ y) (pos 0)) (is_zero_class (class_difference v x)) h in
-    let none : z -ℤ y ≡ pos 0 = (Decides-int_eq (z -ℤ y) (pos 0)).0 parts.0 in
-    let first : z ≡ y = omega (arith, ints) in
-    ap (λ a. a ∷ v) first ∙ ap (λ w. y ∷ w) (zero-difference v x (omega arith) parts.1)
-
-abbrev HasPlace : List (List ℤ) → List ℤ → Type 0
-HasPlace vs v = (is_zero_class v ≡ true) ⊎ Contains vs v
-
-module _ (D : ℕ) (f : Family ℤ) (vs : List (List ℤ)) (closed : IsClosedList D f vs) where
-  same_length : (i : Integer) → IsListed vs i → (v : List ℤ) → length v ≡ length f.heights → length v ≡ length i.class
-  same_length i listed v entries = entries ∙
-      sym (all-contains (IsClassTo D f.heights) vs i.class closed.each listed).positive.entries
-
-  with_listed : (i : Integer) → IsListed vs i → (v : List ℤ) → length v ≡ length f.heights → degree_of f.heights v ≤ℤ pos D
-      → HasPlace vs (class_difference v i.class) → HasPlace vs v
-  with_listed i listed v entries within (inl none) = inr (rw (zero-difference v i.class
-      (same_length i listed v entries) none) listed)
-  with_listed i listed v entries within (inr other) =
-      let back = plus-difference v i.class (same_length i listed v entries) in
-      inr (rw back at (closed.sums (class_difference v i.class) i.class other listed (rw back within)))
-
-  listed_adds : (i : Integer) → IsListed vs i → AddsTo f.heights D (HasPlace vs) i
-  listed_adds i listed =
-      let class = all-contains (IsClassTo D f.heights) vs i.class closed.each listed in
-      let up = class.positive.degree in
-      record { entries = class.positive.entries; positive = omega (arith, ints); sums = with_listed i listed }
-
-  product-outside : (is : List Integer) (v : List ℤ) (n : ℤ) → AllByRecursion (IsListed vs) is → length v ≡ length f.heights
-      → degree_of f.heights v ≤ℤ pos D → (HasPlace vs v → ⊥) → katz f.heights is v n ≡ pos 0
-  product-outside is v n listed entries within none = elsewhere f.heights D (HasPlace vs) is v n (λ u e z. inl z)
-      (all-onto (IsListed vs) (AddsTo f.heights D (HasPlace vs)) listed_adds is listed) entries within none
 
 -- ---- classes in order
 
@@ -115,10 +68,6 @@ unfolding IsDistinct
 distinct-front [] vs once = tt
 distinct-front (u ∷ us) vs once = (all-front (λ y. same_vector u y ≡ false) us vs once.0, distinct-front us vs once.1)
 
-rises-back : (hs : List ℤ) (us vs : List (List ℤ)) → ClassesRise hs (us ++ vs) → ClassesRise hs vs
-rises-back hs [] vs rises = rises
-rises-back hs (u ∷ us) vs rises = rises-back hs us vs (rise_tail hs u (us ++ vs) rises)
-
 before-degree : (hs u v : List ℤ) → IsBefore hs u v → degree_of hs u ≤ℤ degree_of hs v
 before-degree hs u v (inl less) = omega (arith, ints)
 before-degree hs u v (inr same) = omega (arith, ints, same.0)
@@ -129,9 +78,6 @@ all-unmap P g [] all = tt
 all-unmap P g (x ∷ xs) all = (all.0, all-unmap P g xs all.1)
 
 -- ---- what is found in a table
-
-at-none : (t : ℕ) → at wholes [] t ≡ pos 0
-at-none t = at_past wholes [] t (omega arith)
 
 signed-none : (a z : ℤ) → z ≡ pos 0 → a *ℤ z ≡ pos 0
 signed-none a z e = ap (λ y. a *ℤ y) e ∙ *ℤ-zero a
@@ -152,7 +98,7 @@ module _ (D : ℕ) (f : Family ℤ) (w T : ℕ) (read back : List (List ℤ)) (i
   not-later u less there = elim (contains-cases u v back there) as (λ _. ⊥) [
     | inl same ↦ absurd (let e = ap (degree_of hs) same in omega (arith, ints))
     | inr later ↦
-        let order = all-contains (IsBefore hs v) back u (first_before hs v back (rises-back hs read
+        let order = all-contains (IsBefore hs v) back u (first_before hs v back (back_rises hs read
         (v ∷ back) before.closed.rises)) later in
         absurd (omega (arith, ints, before-degree hs v u order))
   ]
@@ -171,7 +117,7 @@ module _ (D : ℕ) (f : Family ℤ) (w T : ℕ) (read back : List (List ℤ)) (i
       (Contains (zeros (length hs) ∷ read) u → ⊥) → katz hs is u n ≡ pos 0
   absent-none u n entries less none =
       let within = before.next.class.within in
-      product-outside D f vs before.closed is u n all-listed entries (omega (arith, ints)) (no-place u entries less none)
+      product-elsewhere D f vs before.closed is u n all-listed entries (omega (arith, ints)) (no-place u entries less none)
 
   found-katz : (u : List ℤ) (s : ℕ) → s ≤ T → length u ≡ length hs → degree_of hs u <ℤ degree_of hs v →
       at wholes (find_row u ls) s ≡ katz_by_weight hs w is u s
@@ -182,7 +128,7 @@ module _ (D : ℕ) (f : Family ℤ) (w T : ℕ) (read back : List (List ℤ)) (i
         | inr absent ↦
             let n = exponent_at hs w u s in
             let none = absent-none u n entries less (λ there. absent.none (rw table.classes there)) in
-            ap (λ r. at wholes r s) absent.row ∙ (at-none s ∙ sym (signed-none (power_sign (unsigned_abs n)) (katz hs is u n) none))
+            ap (λ r. at wholes r s) absent.row ∙ (at-empty s ∙ sym (signed-none (power_sign (unsigned_abs n)) (katz hs is u n) none))
       ]
 
   below-none : (u : List ℤ) (s : ℕ) → degree_of hs u <ℤ pos 0 → katz_by_weight hs w is u s ≡ pos 0
@@ -219,7 +165,7 @@ module _ (D : ℕ) (f : Family ℤ) (w T : ℕ) (read back : List (List ℤ)) (i
           let row : row_at (part_rows ls v l.class (d / l.degree)) j ≡ [] =
           get_or_past (part_rows ls v l.class (d / l.degree)) j [] (omega (arith, length-listed F (d / l.degree))) in
           let low : degree_of hs (class_after (suc j) v l.class) <ℤ pos 0 = omega (arith, ints, left j, past-times j past) in
-          ap (λ r. at wholes r s) row ∙ (at-none s ∙ sym (below-none (class_after (suc j) v l.class) s low))
+          ap (λ r. at wholes r s) row ∙ (at-empty s ∙ sym (below-none (class_after (suc j) v l.class) s low))
     ]
       where
         positive-times : (j : ℕ) → 0 < suc j * l.degree

@@ -17,25 +17,31 @@ use Rattle.tv_laws_series.specs.Terms.{Terms, IsWithin}
 use Rattle.tv_spec_series.specs.Families.{Row, Family, row, classes, coefficient, find, added, cut, with_series, coefficient_of, IsFamily, IsAddend}
 
 abbrev pub SumsCommute : {A : Type 0} → (A → Type 0) → Operations A → Type 0
-SumsCommute {A} IsValue r = (f : Family A) (v w : List ℤ) (s t : Terms A) → IsFamily IsValue r f → IsAddend IsValue r f v s → IsAddend IsValue r f w t → added r v s (added r w t f) ≡ added r w t (added r v s f)
+SumsCommute {A} IsValue r = (f : Family A) (v w : List ℤ) (s t : Terms A) → IsFamily IsValue r f → IsAddend IsValue r f v s
+    → IsAddend IsValue r f w t → added r v s (added r w t f) ≡ added r w t (added r v s f)
 
 abbrev pub AddedHere : {A : Type 0} → (A → Type 0) → Operations A → Type 0
-AddedHere {A} IsValue r = (f : Family A) (v : List ℤ) (s : Terms A) → IsFamily IsValue r f → IsAddend IsValue r f v s → find v (added r v s f).rows ≡ Some (row v (with_series r f.upto s (find v f.rows)))
+AddedHere {A} IsValue r = (f : Family A) (v : List ℤ) (s : Terms A) → IsFamily IsValue r f → IsAddend IsValue r f v s
+    → find v (added r v s f).rows ≡ Some (row v (with_series r f.upto s (find v f.rows)))
 
 abbrev pub AddedElsewhere : {A : Type 0} → Operations A → Type 0
 AddedElsewhere {A} r = (f : Family A) (u v : List ℤ) (s : Terms A) → (u ≡ v → ⊥) → find u (added r v s f).rows ≡ find u f.rows
 
 abbrev pub AddedIsFamily : {A : Type 0} → (A → Type 0) → Operations A → Type 0
-AddedIsFamily {A} IsValue r = (f : Family A) (v : List ℤ) (s : Terms A) → IsFamily IsValue r f → IsAddend IsValue r f v s → IsFamily IsValue r (added r v s f)
+AddedIsFamily {A} IsValue r = (f : Family A) (v : List ℤ) (s : Terms A) → IsFamily IsValue r f → IsAddend IsValue r f v s
+    → IsFamily IsValue r (added r v s f)
 
 abbrev pub AddedClasses : {A : Type 0} → Operations A → Type 0
 AddedClasses {A} r = (f : Family A) (u v : List ℤ) (s : Terms A) → Contains (classes (added r v s f).rows) u ↔ ((u ≡ v) ⊎ Contains (classes f.rows) u)
 
 abbrev pub AddedCoefficient : {A : Type 0} → (A → Type 0) → Operations A → Type 0
-AddedCoefficient {A} IsValue r = (f : Family A) (v : List ℤ) (s : Terms A) (n : ℤ) → IsFamily IsValue r f → IsAddend IsValue r f v s → n ≤ℤ f.upto → coefficient_of r (added r v s f) v n ≡ r.add (coefficient_of r f v n) (coefficient r s n)
+AddedCoefficient {A} IsValue r = (f : Family A) (v : List ℤ) (s : Terms A) (n : ℤ) → IsFamily IsValue r f
+    → IsAddend IsValue r f v s → n ≤ℤ f.upto
+    → coefficient_of r (added r v s f) v n ≡ r.add (coefficient_of r f v n) (coefficient r s n)
 
 abbrev pub CoefficientsElsewhere : {A : Type 0} → Operations A → Type 0
-CoefficientsElsewhere {A} r = (f : Family A) (u v : List ℤ) (s : Terms A) (n : ℤ) → (u ≡ v → ⊥) → coefficient_of r (added r v s f) u n ≡ coefficient_of r f u n
+CoefficientsElsewhere {A} r = (f : Family A) (u v : List ℤ) (s : Terms A) (n : ℤ) → (u ≡ v → ⊥)
+    → coefficient_of r (added r v s f) u n ≡ coefficient_of r f u n
 
 abbrev pub RowsAreFound : {A : Type 0} → (A → Type 0) → Operations A → Type 0
 RowsAreFound {A} IsValue r = (f : Family A) (x : Row A) → IsFamily IsValue r f → Contains f.rows x → find x.class f.rows ≡ Some x

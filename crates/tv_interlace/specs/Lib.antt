@@ -1,4 +1,3 @@
 pub mod Places
 pub mod Bounds
 pub mod Columns
-pub mod Same

@@ -5,9 +5,8 @@ ghost use Rattle.std.specs.Prelude.{◌≡◌, ◌+◌, ◌<◌, ◌^◌, length
 ghost use Rattle.std.proofs.Common.{rules};
 ghost use Rattle.std.specs.Cmp.Rules.{comparing, hashing};
 ghost use Rattle.std.specs.Hash as fed;
-ghost use Rattle.tv_spec_slices.specs.Slices.{Shape, at, reach};
+ghost use Rattle.tv_spec_slices.specs.Slices.{Shape, same_shape, at, reach};
 ghost use Rattle.tv_spec_slices.specs.Paths.{shape};
-ghost use Rattle.tv_interlace.specs.Same.{same};
 
 use std::alloc::AllocError;
 use std::hash::{Hash, Hasher};
@@ -30,7 +29,7 @@ impl Model for Slice {
 }
 
 impl PartialEq for Slice {
-    ghost eq = { same };
+    ghost eq = { same_shape };
 
     ghost laws = { Prim.search (comparing, rules) };
 

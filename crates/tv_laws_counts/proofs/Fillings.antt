@@ -54,7 +54,7 @@ legs_are w a fixed all also =
     all-map (λ (c : Corner). AreDiagrams (legs_of a fixed c)) AreDiagrams (legs_of a fixed) (λ c is. is) (corners w)
     (all-any (λ (c : Corner). AreDiagrams (legs_of a fixed c)) (λ c. record { along_x = row_is a fixed all also c.along_x; along_y = row_is a fixed all also c.along_y; along_z = row_is a fixed all also c.along_z }) (corners w))
 
-fillings_of_counted : (legs : List Legs) (z : ℤ) → AllByRecursion AreDiagrams legs → length (fillings_of legs z) ≡ ways_at legs z
+pub fillings_of_counted : (legs : List Legs) (z : ℤ) → AllByRecursion AreDiagrams legs → length (fillings_of legs z) ≡ ways_at legs z
 fillings_of_counted legs (pos n) all = fillings_counted legs n n all (omega arith)
 fillings_of_counted legs (negsuc n) all = refl
 

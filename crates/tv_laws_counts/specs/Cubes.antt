@@ -18,13 +18,16 @@ pub record IsWithin (n : ℕ) (c : Cell) : Type 0 where
   pub z : c.z < n
 
 abbrev pub ExtrasReach : Type 0
-ExtrasReach = (legs : Legs) (cells : List Cell) (c : Cell) → AreDiagrams legs → is_extras legs cells ≡ true → list_any (same c) cells ≡ true → IsWithin (length cells + extent legs) c
+ExtrasReach = (legs : Legs) (cells : List Cell) (c : Cell) → AreDiagrams legs → is_extras legs cells ≡ true
+    → list_any (same c) cells ≡ true → IsWithin (length cells + extent legs) c
 
 abbrev pub LargerCube : Type 0
-LargerCube = (legs : Legs) (i side : ℕ) → AreDiagrams legs → i ≤ side → filter (is_extras legs) (sublists_of i (cube (side + extent legs))) ≡ filter (is_extras legs) (sublists_of i (cube (i + extent legs)))
+LargerCube = (legs : Legs) (i side : ℕ) → AreDiagrams legs → i ≤ side
+    → filter (is_extras legs) (sublists_of i (cube (side + extent legs))) ≡ filter (is_extras legs) (sublists_of i (cube (i + extent legs)))
 
 abbrev pub LargerCount : Type 0
-LargerCount = (legs : Legs) (i side : ℕ) → AreDiagrams legs → i ≤ side → length (filter (is_extras legs) (sublists_of i (cube (side + extent legs)))) ≡ count legs i
+LargerCount = (legs : Legs) (i side : ℕ) → AreDiagrams legs → i ≤ side
+    → length (filter (is_extras legs) (sublists_of i (cube (side + extent legs)))) ≡ count legs i
 
 abbrev pub NoExtras : Type 0
 NoExtras = (legs : Legs) → count legs 0 ≡ 1

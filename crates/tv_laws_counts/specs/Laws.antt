@@ -30,28 +30,38 @@ abbrev pub FillingsCounted : Type 0
 FillingsCounted = (legs : List Legs) (side n : ℕ) → AllByRecursion AreDiagrams legs → n ≤ side → length (fillings legs side n) ≡ corner_ways legs n
 
 abbrev pub ConfigurationsCounted : Type 0
-ConfigurationsCounted = (w : Web) (fixed : List Rows) (a : Assignment) (n : ℤ) → AllByRecursion IsDiagram fixed → AllByRecursion IsDiagram a → length (configurations_on w fixed a n) ≡ ways_at (all_legs w a fixed) (boxes_left w fixed a n)
+ConfigurationsCounted = (w : Web) (fixed : List Rows) (a : Assignment) (n : ℤ) → AllByRecursion IsDiagram fixed
+    → AllByRecursion IsDiagram a → length (configurations_on w fixed a n) ≡ ways_at (all_legs w a fixed) (boxes_left w fixed a n)
 
 abbrev pub SignedCountIs : Type 0
-SignedCountIs = (w : Web) (fixed : List Rows) (v : List ℤ) (n : ℤ) → AllByRecursion IsDiagram fixed → signed_count w fixed v n ≡ total (λ a. assignment_coefficient w fixed a n) (assignments_of w v)
+SignedCountIs = (w : Web) (fixed : List Rows) (v : List ℤ) (n : ℤ) → AllByRecursion IsDiagram fixed
+    → signed_count w fixed v n ≡ total (λ a. assignment_coefficient w fixed a n) (assignments_of w v)
 
 abbrev pub AssignmentsByDegree : Type 0
-AssignmentsByDegree = (w : Web) (d : ℕ) (v : List ℤ) → IsGraded w → degree_of w.heights v ≤ℤ pos d → assignments_of w v ≡ filter (λ a. same_vector (class_of w a) v) (assignments w d)
+AssignmentsByDegree = (w : Web) (d : ℕ) (v : List ℤ) → IsGraded w → degree_of w.heights v ≤ℤ pos d
+    → assignments_of w v ≡ filter (λ a. same_vector (class_of w a) v) (assignments w d)
 
 abbrev pub AssignmentsListed : Type 0
 AssignmentsListed = (w : Web) (d : ℕ) → IsGraded w → AllByRecursion (IsListed w d) (assignments w d)
 
 abbrev pub CrowdOfClass : Type 0
-CrowdOfClass = (w : Web) (fixed : List Rows) (d : ℕ) (v : List ℤ) (i n : ℤ) → IsGraded w → AllByRecursion IsDiagram fixed → pos 0 ≤ℤ degree_of w.heights v → degree_of w.heights v ≤ℤ pos d → i ≤ℤ n → sum_of (λ a. ways_at (all_legs w a fixed) (boxes_left w fixed a i)) (assignments_of w v) ≤ crowd w fixed d n v
+CrowdOfClass = (w : Web) (fixed : List Rows) (d : ℕ) (v : List ℤ) (i n : ℤ) → IsGraded w → AllByRecursion IsDiagram fixed
+    → pos 0 ≤ℤ degree_of w.heights v → degree_of w.heights v ≤ℤ pos d → i ≤ℤ n
+    → sum_of (λ a. ways_at (all_legs w a fixed) (boxes_left w fixed a i)) (assignments_of w v) ≤ crowd w fixed d n v
 
 abbrev pub CrowdOfFront : Type 0
-CrowdOfFront = (w : Web) (fixed : List Rows) (d : ℕ) (a : Assignment) (n : ℤ) (k m : ℕ) → IsGraded w → AllByRecursion IsDiagram fixed → Contains (assignments w d) a → m ≤ box_bound n (lowest w fixed d) → corner_ways (take k (all_legs w a fixed)) m ≤ crowd w fixed d n (class_of w a)
+CrowdOfFront = (w : Web) (fixed : List Rows) (d : ℕ) (a : Assignment) (n : ℤ) (k m : ℕ) → IsGraded w
+    → AllByRecursion IsDiagram fixed → Contains (assignments w d) a → m ≤ box_bound n (lowest w fixed d)
+    → corner_ways (take k (all_legs w a fixed)) m ≤ crowd w fixed d n (class_of w a)
 
 abbrev pub CrowdOfCorner : Type 0
-CrowdOfCorner = (w : Web) (fixed : List Rows) (d : ℕ) (a : Assignment) (n : ℤ) (legs : Legs) (m : ℕ) → IsGraded w → AllByRecursion IsDiagram fixed → Contains (assignments w d) a → Contains (all_legs w a fixed) legs → m ≤ box_bound n (lowest w fixed d) → count legs m ≤ crowd w fixed d n (class_of w a)
+CrowdOfCorner = (w : Web) (fixed : List Rows) (d : ℕ) (a : Assignment) (n : ℤ) (legs : Legs) (m : ℕ) → IsGraded w
+    → AllByRecursion IsDiagram fixed → Contains (assignments w d) a → Contains (all_legs w a fixed) legs
+    → m ≤ box_bound n (lowest w fixed d) → count legs m ≤ crowd w fixed d n (class_of w a)
 
 abbrev pub BoxesWithin : Type 0
-BoxesWithin = (w : Web) (fixed : List Rows) (d : ℕ) (a : Assignment) (i n : ℤ) → Contains (assignments w d) a → i ≤ℤ n → boxes_left w fixed a i ≤ℤ pos (box_bound n (lowest w fixed d))
+BoxesWithin = (w : Web) (fixed : List Rows) (d : ℕ) (a : Assignment) (i n : ℤ) → Contains (assignments w d) a → i ≤ℤ n
+    → boxes_left w fixed a i ≤ℤ pos (box_bound n (lowest w fixed d))
 
 abbrev pub StartsAbove : Type 0
 StartsAbove = (w : Web) (fixed : List Rows) (d : ℕ) (a : Assignment) → Contains (assignments w d) a → lowest w fixed d ≤ℤ start_of w fixed a

@@ -26,7 +26,8 @@ abbrev pub ShowAllParities : Point → Point → Point → Point → Type 0
 ShowAllParities a b c d = (i j : ℕ) → i < 2 → j < 2 → HasParities i j a ⊎ (HasParities i j b ⊎ (HasParities i j c ⊎ HasParities i j d))
 
 abbrev pub FourParities : Type 0
-FourParities = (w : Web) (e : CompactEdge) → HasRule w e → ShowAllParities (at w.points e.a) (at w.points e.b) (at w.points e.c) (at w.points e.d) ↔ (parity (normal_a w e) ≡ 1)
+FourParities = (w : Web) (e : CompactEdge) → HasRule w e
+    → ShowAllParities (at w.points e.a) (at w.points e.b) (at w.points e.c) (at w.points e.d) ↔ (parity (normal_a w e) ≡ 1)
 
 abbrev pub affine : ℤ → ℤ → ℤ → Point → ℤ
 affine i j k p = ((i *ℤ p.x) +ℤ (j *ℤ p.y)) +ℤ k

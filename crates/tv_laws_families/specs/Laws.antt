@@ -34,7 +34,8 @@ use Rattle.tv_spec_series.specs.Reduced.{product_at, IsQuotient, zero_coefficien
 use Rattle.tv_spec_series.specs.ReducedFamilies.{IsReducedFamily}
 
 abbrev pub FullIsOnly : {A : Type 0} → Operations A → Type 0
-FullIsOnly {A} r = (w : Web) (fixed : List Rows) (d : ℕ) (n : ℤ) (f g : Family A) → IsFull r w fixed d n f → IsFull r w fixed d n g → (v : List ℤ) (i : ℤ) → i ≤ℤ n → coefficient_of r f v i ≡ coefficient_of r g v i
+FullIsOnly {A} r = (w : Web) (fixed : List Rows) (d : ℕ) (n : ℤ) (f g : Family A) → IsFull r w fixed d n f → IsFull r w fixed d n g
+    → (v : List ℤ) (i : ℤ) → i ≤ℤ n → coefficient_of r f v i ≡ coefficient_of r g v i
 
 abbrev pub OnlyQuotientThrough : Type 0
 OnlyQuotientThrough = (n : ℤ) (z g f h : ℤ → ℤ) → IsQuotient n z g f → IsQuotient n z g h → (i : ℤ) → i ≤ℤ n → f i ≡ h i
@@ -50,20 +51,23 @@ pub record IsQuotientFromZero (n : ℤ) (z g f : ℤ → ℤ) : Type 0 where
   pub product : (m : ℤ) → m ≤ℤ n → product_at low (pos 0) f g m ≡ z m
 
 abbrev pub QuotientFromZero : Type 0
-QuotientFromZero = (n : ℤ) (z g f : ℤ → ℤ) → HasUnit g → (IsQuotientFromZero n z g f → IsQuotient n z g f) × (IsQuotient n z g f → IsQuotientFromZero n z g f)
+QuotientFromZero = (n : ℤ) (z g f : ℤ → ℤ) → HasUnit g
+    → (IsQuotientFromZero n z g f → IsQuotient n z g f) × (IsQuotient n z g f → IsQuotientFromZero n z g f)
 
 abbrev pub BeginsWithOne : Type 0
 BeginsWithOne = (w : Web) → IsGraded w → HasUnit (zero_coefficient w (no_legs w))
 
 abbrev pub NothingBelow : Type 0
-NothingBelow = (w : Web) (fixed : List Rows) (d : ℕ) (v : List ℤ) (n : ℤ) → IsGraded w → AllByRecursion IsDiagram fixed → degree_of w.heights v ≤ℤ pos d → n <ℤ lowest w fixed d → signed_count w fixed v n ≡ pos 0
+NothingBelow = (w : Web) (fixed : List Rows) (d : ℕ) (v : List ℤ) (n : ℤ) → IsGraded w → AllByRecursion IsDiagram fixed
+    → degree_of w.heights v ≤ℤ pos d → n <ℤ lowest w fixed d → signed_count w fixed v n ≡ pos 0
 
 pub record AgreeThrough {A : Type 0} (r : Operations A) (n : ℤ) (f g : Family A) : Type 0 where
   pub classes : classes f.rows ≡ classes g.rows
   pub coefficients : (v : List ℤ) (i : ℤ) → i ≤ℤ n → coefficient_of r f v i ≡ coefficient_of r g v i
 
 abbrev pub ReducedIsOnly : {A : Type 0} → Operations A → Type 0
-ReducedIsOnly {A} r = (w : Web) (fixed : List Rows) (d : ℕ) (n : ℤ) (f g : Family A) → IsReducedFamily r w fixed d n f → IsReducedFamily r w fixed d n g → AgreeThrough r n f g
+ReducedIsOnly {A} r = (w : Web) (fixed : List Rows) (d : ℕ) (n : ℤ) (f g : Family A) → IsReducedFamily r w fixed d n f
+    → IsReducedFamily r w fixed d n g → AgreeThrough r n f g
 
 pub record IsOne {A : Type 0} (r : Operations A) (n : ℤ) (s : Terms A) : Type 0 where
   pub unit : pos 0 ≤ℤ n → coefficient r s (pos 0) ≡ r.unit
@@ -79,4 +83,6 @@ pub record HasReducedClasses {A : Type 0} (r : Operations A) (w : Web) (b : ℕ)
   pub entries : AllByRecursion (λ v. AllByRecursion (λ x. pos (unsigned_abs x) ≤ℤ (pos b *ℤ degree_of w.heights v)) v) (classes f.rows)
 
 abbrev pub ReducedClasses : {A : Type 0} → Operations A → Type 0
-ReducedClasses {A} r = (w : Web) (b d : ℕ) (n : ℤ) (f : Family A) → IsGraded w → AllByRecursion (λ e. AreAtMost b (edge_class w e)) (compact w) → IsReducedFamily r w (no_legs w) d n f → HasReducedClasses r w b n f
+ReducedClasses {A} r = (w : Web) (b d : ℕ) (n : ℤ) (f : Family A) → IsGraded w
+    → AllByRecursion (λ e. AreAtMost b (edge_class w e)) (compact w) → IsReducedFamily r w (no_legs w) d n f
+    → HasReducedClasses r w b n f

@@ -4,9 +4,8 @@ use Rattle.std.proofs.Common.{refl, sym, ap, ◌∙◌, arith}
 use Rattle.std.proofs.lemmas.Int.{ints}
 use Rattle.tv_spec_plane.specs.declared.records.CompactEdge.{CompactEdge}
 use Rattle.tv_spec_plane.specs.Web.{Web, compact}
-use Rattle.tv_spec_boxes.specs.Assignments.{Rows, Assignment, class_of, sum_on}
-use Rattle.tv_spec_boxes.proofs.Vectors.{part_by, at-class_on, length-class_of}
-use Rattle.tv_spec_katz.specs.Places.{class_difference}
+use Rattle.tv_spec_boxes.specs.Assignments.{Rows, Assignment, class_of, sum_on, class_difference}
+use Rattle.tv_spec_boxes.proofs.Vectors.{part_by, at-class_on, length-class_of, length-difference}
 use Rattle.tv_spec_partial.specs.Partial.{rests_on}
 use Rattle.tv_laws_frontier.specs.Steps.{is_new, put, new_part}
 use Rattle.tv_laws_frontier.proofs.Placed.{sum-put}
@@ -17,11 +16,6 @@ entries-same [] [] e same = refl
 entries-same [] (y ∷ v) e same = absurd (omega arith)
 entries-same (x ∷ u) [] e same = absurd (omega arith)
 entries-same (x ∷ u) (y ∷ v) e same = ap (λ z. z ∷ u) (same 0) ∙ ap (λ r. y ∷ r) (entries-same u v (omega arith) (λ k. same (suc k)))
-
-difference-long : (u v : List ℤ) → length (class_difference u v) ≡ length u
-difference-long [] v = refl
-difference-long (x ∷ u) [] = refl
-difference-long (x ∷ u) (y ∷ v) = ap suc (difference-long u v)
 
 difference-at : (u v : List ℤ) → length u ≡ length v → (k : ℕ) → slice_index_or (class_difference u v) k (pos 0) ≡ slice_index_or u k (pos 0) -ℤ slice_index_or v k (pos 0)
 difference-at [] [] e k = omega (arith, ints)
@@ -52,13 +46,13 @@ module _ (w : Web) (t : ℕ) (g : List Rows) (b : Assignment) (v : List ℤ) (lo
   class-before is =
       let size : length v ≡ length w.points = ap length (sym is) ∙ length-class_of w (put (is_new t) (compact w) g b) in
       let c = class_of w (new_part w t g) in
-      entries-same (class_of w b) (class_difference v c) (length-class_of w b ∙ (sym size ∙ sym (difference-long v c)))
+      entries-same (class_of w b) (class_difference v c) (length-class_of w b ∙ (sym size ∙ sym (length-difference v c)))
       (λ k. take-off (slice_index_or v k (pos 0)) (slice_index_or (class_of w b) k (pos 0)) (slice_index_or c k (pos 0)) (ap (λ u. slice_index_or u k (pos 0)) (sym is) ∙ class-entry w t g b long rests k)
       ∙ sym (difference-at v c (size ∙ sym (length-class_of w (new_part w t g))) k))
 
   pub class-after : class_of w b ≡ class_difference v (class_of w (new_part w t g)) → class_of w (put (is_new t) (compact w) g b) ≡ v
   class-after is =
       let c = class_of w (new_part w t g) in
-      let size : length v ≡ length w.points = sym (difference-long v c) ∙ (ap length (sym is) ∙ length-class_of w b) in
+      let size : length v ≡ length w.points = sym (length-difference v c) ∙ (ap length (sym is) ∙ length-class_of w b) in
       entries-same (class_of w (put (is_new t) (compact w) g b)) v (length-class_of w (put (is_new t) (compact w) g b) ∙ sym size)
       (λ k. class-entry w t g b long rests k ∙ put-on (slice_index_or v k (pos 0)) (slice_index_or (class_of w b) k (pos 0)) (slice_index_or c k (pos 0)) (ap (λ u. slice_index_or u k (pos 0)) is ∙ difference-at v c (size ∙ sym (length-class_of w (new_part w t g))) k))

@@ -11,8 +11,7 @@ use Rattle.tv_spec_plane.specs.declared.records.CompactEdge.{CompactEdge}
 use Rattle.tv_spec_plane.specs.Graded.{IsGraded}
 use Rattle.tv_spec_plane.specs.Web.{Web, compact, edge_degree, degree_of}
 use Rattle.tv_cells.specs.Extras.{count}
-use Rattle.tv_spec_boxes.specs.Assignments.{Rows, Assignment, sum_on, class_of, assignments}
-use Rattle.tv_spec_katz.specs.Places.{class_difference}
+use Rattle.tv_spec_boxes.specs.Assignments.{Rows, Assignment, sum_on, class_of, assignments, class_difference}
 use Rattle.tv_spec_partial.specs.Partial.{is_pending}
 use Rattle.tv_laws_counts.proofs.Choices.{degree_by}
 use Rattle.tv_laws_counts.proofs.Degrees.{weights, class_of-degree}
@@ -27,6 +26,7 @@ use Rattle.tv_laws_frontier.proofs.Placed.{Stays, put-skip, put-long, sum-put, o
 use Rattle.tv_laws_frontier.proofs.Regrouped.{Goes, goes-is}
 use Rattle.tv_laws_frontier.proofs.Resting.{pending-apart, put-stays, stays-more, rests-bare}
 use Rattle.tv_laws_frontier.proofs.StateClasses.{option-is}
+use Rattle.tv_lemmas.proofs.Tests.{not-off}
 
 -- ---- degrees as sums
 
@@ -72,10 +72,6 @@ picked-only q (e ∷ es) (d ∷ b) long = picked-only-head q e es d b (q e) refl
 nothing-stays : (es : List CompactEdge) → Stays (λ e. false) es (nothing es)
 nothing-stays [] = tt
 nothing-stays (e ∷ es) = ((λ off. refl), nothing-stays es)
-
-not-off : (b : Bool) → not b ≡ false → b ≡ true
-not-off true h = refl
-not-off false h = cc
 
 pending-bare : (t : ℕ) (es : List CompactEdge) (h : List Rows) → Stays (λ e. not (is_new t e)) es (put (is_pending t) es h (nothing es))
 pending-bare t es h =

@@ -13,13 +13,7 @@ use Rattle.tv_cells.proofs.Sublists.{sublists_of-length}
 use Rattle.tv_spec_boxes.specs.Configurations.{extras_of, fillings, fillings_of, boxes_of}
 use Rattle.tv_laws_counts.specs.Ways.{ways_at}
 use Rattle.tv_laws_counts.proofs.Fillings.{fillings_counted}
-
-up_to : (k n top : ℕ) → k + n ≤ top + 1 → AllByRecursion (λ i. i ≤ top) (range_with_len k n)
-up_to k zero top h = tt
-up_to k (suc n) top h = (omega arith, up_to (k + 1) n top (omega arith))
-
-extras_long : (legs : Legs) (side i : ℕ) → AllByRecursion (λ s. length s ≡ i) (extras_of legs side i)
-extras_long legs side i = all-filter (λ (s : List Cell). length s ≡ i) (λ (s : List Cell). length s ≡ i) (is_extras legs) (λ s e h. e) (sublists_of i (cube (side + extent legs))) (sublists_of-length i (cube (side + extent legs)))
+use Rattle.tv_spec_boxes.proofs.Members.{numbers_at_most, extras_long}
 
 -- a set for each corner, and n boxes in all
 abbrev pub HasShape : List Legs → ℕ → List (List Cell) → Type 0
@@ -37,7 +31,7 @@ fillings-shaped (l ∷ legs) side n =
     (λ (i : ℕ) (h : i ≤ n). all-flat_map (λ (s : List Cell). length s ≡ i) (HasShape (l ∷ legs) n) (λ (cells : List Cell). map (λ (others : List (List Cell)). cells ∷ others) (fillings legs side (n - i)))
     (λ (cells : List Cell) (long : length cells ≡ i). all-map (HasShape legs (n - i)) (HasShape (l ∷ legs) n) (λ (others : List (List Cell)). cells ∷ others) (λ others e. (ap suc e.0, filled cells others i n h long e.1)) (fillings legs side (n - i)) (fillings-shaped legs side (n - i)))
     (extras_of l side i) (extras_long l side i))
-    (below (suc n)) (up_to 0 (suc n) n (omega arith))
+    (below (suc n)) (numbers_at_most 0 (suc n) n (omega arith))
   where
     filled : (cells : List Cell) (others : List (List Cell)) (i n : ℕ) → i ≤ n → length cells ≡ i → boxes_of others ≡ n - i → boxes_of (cells ∷ others) ≡ n
     filled cells others i n h long e = omega arith
@@ -45,10 +39,6 @@ fillings-shaped (l ∷ legs) side n =
 pub fillings_of-full : (legs : List Legs) (z : ℤ) → AllByRecursion (λ sets. pos (boxes_of sets) ≡ z) (fillings_of legs z)
 fillings_of-full legs (pos n) = all-onto (HasShape legs n) (λ sets. pos (boxes_of sets) ≡ pos n) (λ sets e. ap pos e.1) (fillings legs n n) (fillings-shaped legs n n)
 fillings_of-full legs (negsuc n) = tt
-
-pub fillings_of-counted : (legs : List Legs) (z : ℤ) → AllByRecursion AreDiagrams legs → length (fillings_of legs z) ≡ ways_at legs z
-fillings_of-counted legs (pos n) all = fillings_counted legs n n all (omega arith)
-fillings_of-counted legs (negsuc n) all = refl
 
 pub all-front_of : {A : Type 0} (P : A → Type 0) (t : ℕ) (xs : List A) → AllByRecursion P xs → AllByRecursion P (take t xs)
 all-front_of P zero xs all = tt

@@ -11,12 +11,7 @@ use Rattle.tv_spec_partial.specs.Partial.{partial_chi}
 use Rattle.tv_laws_frontier.specs.Frontier.{start_after}
 use Rattle.tv_laws_frontier.specs.Kept.{restricted, is_low, is_kept}
 use Rattle.tv_laws_frontier.specs.Laws.{KeptIsTold}
-
-low-tells : (z m : ℤ) → int_le z m ≡ true → z ≤ℤ m
-low-tells z m h = grind (arith, ints)
-
-low-told : (z m : ℤ) → z ≤ℤ m → int_le z m ≡ true
-low-told z m h = grind (arith, ints)
+use Rattle.tv_lemmas.proofs.Tests.{most_tells, most-true}
 
 kept-each : (w : Web) (m : ℤ) (t : ℕ) (c : Configuration) → is_kept w m t c ≡ true → (s : ℕ) → s ≤ t → is_low w m s c ≡ true
 unfolding is_kept
@@ -32,7 +27,7 @@ each-kept w m (suc t) c each = let first = each-kept w m t c (λ s le. each s (o
 
 pub kept_is_told : KeptIsTold
 kept_is_told w m t c =
-    ((λ h s le. low-tells (partial_chi w s (restricted w s c)) m (kept-each w m t c h s le)), (λ each. each-kept w m t c (λ s le. low-told (partial_chi w s (restricted w s c)) m (each s le))))
+    ((λ h s le. most_tells (partial_chi w s (restricted w s c)) m (kept-each w m t c h s le)), (λ each. each-kept w m t c (λ s le. most-true (partial_chi w s (restricted w s c)) m (each s le))))
 
 -- ---- the test on the extras of one assignment
 

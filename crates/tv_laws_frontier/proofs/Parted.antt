@@ -9,6 +9,7 @@ use Rattle.tv_lemmas.proofs.Permuted.{places, Permuted, IsEquality, permuted-sum
 use Rattle.tv_ring.specs.Sums.{total_below}
 use Rattle.tv_ring.proofs.Sums.{total_below-none, total_below-more}
 use Rattle.tv_laws_frontier.proofs.Filters.{sum_of-same}
+use Rattle.tv_lemmas.proofs.Sums.{sum_of-map}
 
 pub sum_of-alike : {A : Type 0} (f g : A → ℕ) → ((x : A) → f x ≡ g x) → (xs : List A) → sum_of f xs ≡ sum_of g xs
 sum_of-alike f g same xs = sum_of-same f g xs (all-any (λ x. f x ≡ g x) same xs)
@@ -27,10 +28,6 @@ distribute c x y = grind arith
 pub sum_of-times : {A : Type 0} (c : ℕ) (f : A → ℕ) (xs : List A) → sum_of (λ x. c * f x) xs ≡ c * sum_of f xs
 sum_of-times c f [] = omega arith
 sum_of-times c f (x ∷ xs) = ap (λ s. c * f x + s) (sum_of-times c f xs) ∙ sym (distribute c (f x) (sum_of f xs))
-
-sum_of-mapped : {A B : Type 0} (f : B → ℕ) (g : A → B) (xs : List A) → sum_of f (map g xs) ≡ sum_of (λ x. f (g x)) xs
-sum_of-mapped f g [] = refl
-sum_of-mapped f g (x ∷ xs) = ap (λ s. f (g x) + s) (sum_of-mapped f g xs)
 
 -- a sum of convolutions is the convolution of the sum
 pub exchanged : {A : Type 0} (c : ℕ → ℕ) (h : A → ℕ → ℕ) (n : ℕ) (xs : List A) → sum_of (λ x. total_below (λ j. c j * h x j) n) xs ≡ total_below (λ j. c j * sum_of (λ x. h x j) xs) n
@@ -132,4 +129,4 @@ module _ {B : Type 0} (same : B → B → Bool) (equality : IsEquality same) whe
     carried F =
         permuted-sum_of F same equality (filter p L) (map g (filter q L))
         (by_members (filter p L) (map g (filter q L)) (distinct-filter same p L distinct) (distinct-carried (λ y. Contains L y × (q y ≡ true)) g keeps-apart (filter q L) (passing q) (distinct-filter same q L distinct)) carries (λ x among. all-contains (Contains (filter p L)) (map g (filter q L)) x returned among))
-        ∙ sum_of-mapped F g (filter q L)
+        ∙ sum_of-map F g (filter q L)

@@ -22,11 +22,11 @@ use Rattle.tv_spec_boxes.specs.Configurations.{Configuration, configuration, fil
 use Rattle.tv_spec_partial.specs.Partial.{is_met, is_empty, rests_on, chosen, first_legs, partial_boxes_left, partial_on, partial_configurations, partial_chi, partial_sign, partial_count}
 use Rattle.tv_laws_counts.specs.Ways.{ways_at, assignment_sign, IsListed}
 use Rattle.tv_laws_counts.proofs.Degrees.{assignments_by_degree, assignments_listed}
-use Rattle.tv_laws_counts.proofs.Fillings.{legs_are}
+use Rattle.tv_laws_counts.proofs.Fillings.{legs_are, fillings_of_counted}
 use Rattle.tv_laws_counts.proofs.SignedCounts.{assignments_have_diagrams}
 use Rattle.tv_laws_frontier.specs.Frontier.{only, start_after, kept_at, is_of_state, of_state, state_number, state_sum, kept_upto}
 use Rattle.tv_laws_frontier.specs.Laws.{KeptArePartial, KeptAreCounted}
-use Rattle.tv_laws_frontier.proofs.Filled.{fillings_of-full, fillings_of-counted, all-front_of}
+use Rattle.tv_laws_frontier.proofs.Filled.{fillings_of-full, all-front_of}
 use Rattle.tv_laws_frontier.proofs.Filters.{filter-both, filter-alike, length-flat_map, sum_of-same}
 use Rattle.tv_laws_frontier.proofs.Kept.{kept_are_all}
 
@@ -120,7 +120,7 @@ on-counted w d t i n graded within h a is =
     let legs = legs_are w a (no_legs w) diagrams (no_diagrams w) in
     kept_are_all w (no_legs w) d t a i n is.among within h
     ∙ (ap (ways_at (first_legs w t a)) (sym (left-is w d t a i graded is))
-    ∙ (sym (fillings_of-counted (first_legs w t a) (partial_boxes_left w t a i) (all-front_of AreDiagrams t (all_legs w a (no_legs w)) legs))
+    ∙ (sym (fillings_of_counted (first_legs w t a) (partial_boxes_left w t a i) (all-front_of AreDiagrams t (all_legs w a (no_legs w)) legs))
     ∙ sym (length-map (fillings_of (first_legs w t a) (partial_boxes_left w t a i)) (configuration a))))
 
 pub signs-on : (w : Web) (t : ℕ) (i : ℤ) (a : Assignment) → AllByRecursion (λ c. partial_sign w t c ≡ assignment_sign w a i) (partial_on w t a i)

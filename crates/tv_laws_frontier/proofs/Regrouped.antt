@@ -11,10 +11,9 @@ use Rattle.tv_ring.specs.Sums.{total_below}
 use Rattle.tv_spec_plane.specs.Graded.{IsGraded}
 use Rattle.tv_spec_plane.specs.Web.{Web, compact, edge_degree, degree_of}
 use Rattle.tv_cells.specs.Extras.{count}
-use Rattle.tv_spec_boxes.specs.Assignments.{Rows, Assignment, class_of, assignments, same_choice, same_vector}
+use Rattle.tv_spec_boxes.specs.Assignments.{Rows, Assignment, class_of, assignments, same_choice, same_vector, class_difference}
 use Rattle.tv_spec_boxes.specs.Numbers.{lowest, box_bound}
 use Rattle.tv_spec_boxes.proofs.Vectors.{same_vector-same, same_vector_tells}
-use Rattle.tv_spec_katz.specs.Places.{class_difference}
 use Rattle.tv_spec_partial.specs.Partial.{is_met, is_pending, rests_on, chosen}
 use Rattle.tv_laws_counts.proofs.Assigned.{assignments_once}
 use Rattle.tv_laws_counts.proofs.Choices.{IsChoice, degree_by}

@@ -11,6 +11,7 @@ use Rattle.tv_laws_frontier.specs.Steps.{is_new, picked, put}
 use Rattle.tv_laws_frontier.proofs.Corners.{touches}
 use Rattle.tv_laws_frontier.proofs.PartialSums.{empty-rows}
 use Rattle.tv_laws_frontier.proofs.Placed.{Stays, put-skip}
+use Rattle.tv_lemmas.proofs.Tests.{not-off}
 
 -- ---- edges
 
@@ -167,10 +168,6 @@ split-rests t es a long h = split-again (is_new t) (is_met t) (is_met (suc t)) (
 pub only-rests : (t : ℕ) (es : List CompactEdge) (a : Assignment) → rests_on t es (only (is_met t) es a) ≡ true
 only-rests t es a = stays-rests t es (only (is_met t) es a) (only-stays (is_met t) es a)
 
-not-false : (b : Bool) → not b ≡ false → b ≡ true
-not-false true h = refl
-not-false false h = cc
-
 -- what rests has nothing on the new edges
 pub rests-bare : (t : ℕ) (es : List CompactEdge) (b : Assignment) → rests_on t es b ≡ true → Stays (λ e. not (is_new t e)) es b
-rests-bare t es b h = stays-more (is_met t) (λ e. not (is_new t e)) (λ e off. new-unmet t e (not-false (is_new t e) off)) es b (rests-stays t es b h)
+rests-bare t es b h = stays-more (is_met t) (λ e. not (is_new t e)) (λ e off. new-unmet t e (not-off (is_new t e) off)) es b (rests-stays t es b h)

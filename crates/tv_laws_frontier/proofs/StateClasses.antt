@@ -8,9 +8,8 @@ use Rattle.tv_lemmas.proofs.Members.{all-filter, all-contains, all-members, cont
 use Rattle.tv_spec_plane.specs.declared.records.CompactEdge.{CompactEdge}
 use Rattle.tv_spec_plane.specs.Graded.{IsGraded}
 use Rattle.tv_spec_plane.specs.Web.{Web, compact, edge_degree, degree_of}
-use Rattle.tv_spec_boxes.specs.Assignments.{Rows, Assignment, class_of, choices, assignments, same_choice, same_vector}
+use Rattle.tv_spec_boxes.specs.Assignments.{Rows, Assignment, class_of, choices, assignments, same_choice, same_vector, class_difference}
 use Rattle.tv_spec_boxes.proofs.Vectors.{same_vector-same, same_vector_tells}
-use Rattle.tv_spec_katz.specs.Places.{class_difference}
 use Rattle.tv_spec_partial.specs.Partial.{is_met, is_pending, chosen, rests_on}
 use Rattle.tv_laws_counts.proofs.Choices.{IsChoice, choices_are}
 use Rattle.tv_laws_counts.proofs.Degrees.{weights}

@@ -15,30 +15,17 @@ use Rattle.tv_spec_partial.specs.Partial.{is_met, rests_on, chosen}
 use Rattle.tv_laws_counts.specs.Ways.{ways_at, assignment_sign, assignment_coefficient, IsListed}
 use Rattle.tv_laws_counts.proofs.Degrees.{assignments_by_degree, assignments_listed}
 use Rattle.tv_laws_counts.proofs.SignedCounts.{signed_count_is}
-use Rattle.tv_laws_signs.proofs.Whole.{compact_inside}
+use Rattle.tv_laws_signs.proofs.Whole.{compact_inside, IsInside, rests, nothing_chosen}
 use Rattle.tv_laws_frontier.specs.Frontier.{only, start_after, kept_at, is_of_state, of_state, state_sum, kept_upto}
 use Rattle.tv_laws_frontier.specs.Laws.{WholeIsState}
 use Rattle.tv_laws_frontier.proofs.Filters.{filter-alike}
 use Rattle.tv_laws_frontier.proofs.Kept.{legs-long, kept_are_all}
 use Rattle.tv_laws_frontier.proofs.PartialSums.{IsResting, only-resting, state-rests}
 
-abbrev BothTaken : ℕ → CompactEdge → Type 0
-BothTaken n e = (nat_lt e.corner_c n ≡ true) × (nat_lt e.corner_d n ≡ true)
-
-rests-whole : (n : ℕ) (es : List CompactEdge) (a : Assignment) → AllByRecursion (BothTaken n) es → rests_on n es a ≡ true
-rests-whole n [] a all = refl
-rests-whole n (e ∷ es) [] all = refl
-rests-whole n (e ∷ es) (d ∷ a) all = rw all.0.0 (rests-whole n es a all.1)
-
-none-chosen : (n : ℕ) (es : List CompactEdge) (a : Assignment) → AllByRecursion (BothTaken n) es → chosen n es a ≡ []
-none-chosen n [] a all = refl
-none-chosen n (e ∷ es) [] all = refl
-none-chosen n (e ∷ es) (d ∷ a) all = rw (all.0.0, all.0.1) (none-chosen n es a all.1)
-
 pub of_class : (w : Web) (v : List ℤ) (a : Assignment) → is_of_state w (length w.triangles) [] v a ≡ same_vector (class_of w a) v
 of_class w v a =
-    ap (λ b. b && (same_choice (chosen (length w.triangles) (compact w) a) [] && same_vector (class_of w a) v)) (rests-whole (length w.triangles) (compact w) a (compact_inside w))
-    ∙ ap (λ ds. same_choice ds [] && same_vector (class_of w a) v) (none-chosen (length w.triangles) (compact w) a (compact_inside w))
+    ap (λ b. b && (same_choice (chosen (length w.triangles) (compact w) a) [] && same_vector (class_of w a) v)) (rests (length w.triangles) (compact w) a (compact_inside w))
+    ∙ ap (λ ds. same_choice ds [] && same_vector (class_of w a) v) (nothing_chosen (length w.triangles) (compact w) a (compact_inside w))
 
 coefficient-is : (w : Web) (fixed : List Rows) (d : ℕ) (i n : ℤ) → IsGraded w → i ≤ℤ n → (a : Assignment) → IsResting w d (length w.triangles) a → assignment_sign w a i *ℤ pos (kept_at w fixed (kept_upto w fixed d n) (length w.triangles) a i) ≡ assignment_coefficient w fixed a i
 unfolding assignment_coefficient

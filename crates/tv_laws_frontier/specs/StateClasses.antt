@@ -6,8 +6,7 @@
 --                        which the choice is k, the state before has the class v less that of the new edges
 use Rattle.std.specs.Prelude.{◌≡◌, Contains, ℕ, suc, ℤ, List}
 use Rattle.tv_spec_plane.specs.Web.{Web, compact}
-use Rattle.tv_spec_boxes.specs.Assignments.{Rows, Assignment, class_of}
-use Rattle.tv_spec_katz.specs.Places.{class_difference}
+use Rattle.tv_spec_boxes.specs.Assignments.{Rows, Assignment, class_of, class_difference}
 use Rattle.tv_spec_partial.specs.Partial.{chosen}
 use Rattle.tv_laws_frontier.specs.Frontier.{of_state}
 use Rattle.tv_laws_frontier.specs.Steps.{states, options, new_part, near_part}

@@ -24,8 +24,7 @@ use Rattle.tv_spec_plane.specs.Web.{Web, compact, edge_degree}
 use Rattle.tv_cells.specs.declared.legs.Legs.{Legs}
 use Rattle.tv_cells.specs.Costs.{overlap_cost}
 use Rattle.tv_cells.specs.Extras.{count}
-use Rattle.tv_spec_boxes.specs.Assignments.{Rows, Assignment, class_of, edge_costs, choices, same_choice}
-use Rattle.tv_spec_katz.specs.Places.{class_difference}
+use Rattle.tv_spec_boxes.specs.Assignments.{Rows, Assignment, class_of, edge_costs, choices, same_choice, class_difference}
 use Rattle.tv_spec_partial.specs.Partial.{is_met, is_pending, chosen}
 use Rattle.tv_laws_frontier.specs.Frontier.{corner_legs, state_number}
 

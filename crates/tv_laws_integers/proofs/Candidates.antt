@@ -19,14 +19,9 @@ use Rattle.tv_spec_katz.specs.Relations.{IsPositiveClass, IsNormalized}
 use Rattle.tv_laws_integers.specs.Closed.{IsClassTo, IsClosedList}
 use Rattle.tv_laws_integers.proofs.Sorted.{all_sorted, contains_sorted, sorted_rises}
 use Rattle.tv_laws_integers.proofs.SumsOfClasses.{IsSum, sums_are, sum_is, sum_of_one, sums_add}
+use Rattle.tv_lemmas.proofs.Tests.{most_tells, most-true}
 
 -- ---- the test of a degree
-
-most_tells : (a b : ℤ) → int_le a b ≡ true → a ≤ℤ b
-most_tells a b h = grind (arith, ints)
-
-most-true : (a b : ℤ) → a ≤ℤ b → int_le a b ≡ true
-most-true a b h = grind (arith, ints)
 
 pub within_tells : (D : ℕ) (hs v : List ℤ) → is_within D hs v ≡ true → (pos 0 <ℤ degree_of hs v) × (degree_of hs v ≤ℤ pos D)
 within_tells D hs v b =

@@ -28,7 +28,7 @@ zero_class-zeros : (n : ℕ) → is_zero_class (zeros n) ≡ true
 zero_class-zeros zero = refl
 zero_class-zeros (suc n) = zero_class-zeros n
 
-zero_class_is : (v : List ℤ) → is_zero_class v ≡ true → v ≡ zeros (length v)
+pub zero_class_is : (v : List ℤ) → is_zero_class v ≡ true → v ≡ zeros (length v)
 zero_class_is [] h = refl
 zero_class_is (x ∷ v) h =
     let parts = and_parts (int_eq x (pos 0)) (is_zero_class v) h in
@@ -54,14 +54,14 @@ agrees_zero N f is n normal h = bool_cases (int_eq n (pos 0))
 
 -- ---- all other classes
 
-plus-difference : (v x : List ℤ) → length v ≡ length x → plus (class_difference v x) x ≡ v
+pub plus-difference : (v x : List ℤ) → length v ≡ length x → plus (class_difference v x) x ≡ v
 plus-difference [] [] e = refl
 plus-difference [] (y ∷ x) e = absurd (omega arith)
 plus-difference (z ∷ v) [] e = absurd (omega arith)
 plus-difference (z ∷ v) (y ∷ x) e = let back : (z -ℤ y) +ℤ y ≡ z = omega (arith, ints) in
     rw (back, plus-difference v x (omega arith)) refl
 
-zero-difference : (v x : List ℤ) → length v ≡ length x → is_zero_class (class_difference v x) ≡ true → v ≡ x
+pub zero-difference : (v x : List ℤ) → length v ≡ length x → is_zero_class (class_difference v x) ≡ true → v ≡ x
 zero-difference [] [] e h = refl
 zero-difference [] (y ∷ x) e h = absurd (omega arith)
 zero-difference (z ∷ v) [] e h = absurd (omega arith)
@@ -71,7 +71,7 @@ zero-difference (z ∷ v) (y ∷ x) e h =
     let first : z ≡ y = omega (arith, ints) in
     ap (λ a. a ∷ v) first ∙ ap (λ w. y ∷ w) (zero-difference v x (omega arith) parts.1)
 
-abbrev HasPlace : List (List ℤ) → List ℤ → Type 0
+abbrev pub HasPlace : List (List ℤ) → List ℤ → Type 0
 HasPlace vs v = (is_zero_class v ≡ true) ⊎ Contains vs v
 
 module _ (D : ℕ) (f : Family ℤ) (vs : List (List ℤ)) (closed : IsClosedList D f vs) where
@@ -91,7 +91,7 @@ module _ (D : ℕ) (f : Family ℤ) (vs : List (List ℤ)) (closed : IsClosedLis
       let up = class.positive.degree in
       record { entries = class.positive.entries; positive = omega (arith, ints); sums = with_listed i listed }
 
-  product-elsewhere : (is : List Integer) (v : List ℤ) (n : ℤ) → AllByRecursion (IsListed vs) is → length v ≡ length f.heights
+  pub product-elsewhere : (is : List Integer) (v : List ℤ) (n : ℤ) → AllByRecursion (IsListed vs) is → length v ≡ length f.heights
       → degree_of f.heights v ≤ℤ pos D → (HasPlace vs v → ⊥) → katz f.heights is v n ≡ pos 0
   product-elsewhere is v n listed entries within none = elsewhere f.heights D (HasPlace vs) is v n (λ u e z. inl z)
       (all-onto (IsListed vs) (AddsTo f.heights D (HasPlace vs)) listed_adds is listed) entries within none

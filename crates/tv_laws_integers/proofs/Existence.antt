@@ -46,7 +46,7 @@ before_back hs [] vs rises = tt
 before_back hs (u ∷ us) vs rises =
     (all-back (IsBefore hs u) us vs (first_before hs u (us ++ vs) rises), before_back hs us vs (rise_tail hs u (us ++ vs) rises))
 
-back_rises : (hs : List ℤ) (us vs : List (List ℤ)) → ClassesRise hs (us ++ vs) → ClassesRise hs vs
+pub back_rises : (hs : List ℤ) (us vs : List (List ℤ)) → ClassesRise hs (us ++ vs) → ClassesRise hs vs
 back_rises hs [] vs rises = rises
 back_rises hs (u ∷ us) vs rises = back_rises hs us vs (rise_tail hs u (us ++ vs) rises)
 

@@ -15,6 +15,7 @@ use Rattle.tv_spec_katz.proofs.Samples.{conifold_integer, conifold_series, plane
 use Rattle.tv_laws_integers.proofs.Elsewhere.{katz-zero_unit}
 use Rattle.tv_laws_integers.proofs.Existence.{only}
 use Rattle.tv_laws_integers.proofs.Proved.{integers_are}
+use Rattle.tv_spec_katz.proofs.Values.{conifold_integers_are, plane_integers_are}
 
 abbrev zero_class : List ℤ
 zero_class = pos 0 ∷ pos 0 ∷ pos 0 ∷ pos 0 ∷ []
@@ -45,12 +46,8 @@ conifold_normalized = record {
   );
 }
 
-conifold_read : integers 2 conifold_series ≡ conifold_integer
-unfolding integers candidates comes_before find coefficient at above katz product times unit difference_by power_at binomial choose sum_below
-conifold_read = refl
-
 conifold_integers : AreIntegers 2 conifold_series conifold_integer
-conifold_integers = subst (AreIntegers 2 conifold_series) conifold_read (integers_are 2 conifold_series conifold_normalized)
+conifold_integers = subst (AreIntegers 2 conifold_series) conifold_integers_are (integers_are 2 conifold_series conifold_normalized)
 
 -- ---- local P^2: 3 and -6
 
@@ -78,12 +75,8 @@ plane_normalized = record {
   );
 }
 
-plane_read : integers 2 plane_series ≡ plane_integers
-unfolding integers candidates comes_before find coefficient at above katz product times unit difference_by power_at binomial choose sum_below
-plane_read = refl
-
 plane_are : AreIntegers 2 plane_series plane_integers
-plane_are = subst (AreIntegers 2 plane_series) plane_read (integers_are 2 plane_series plane_normalized)
+plane_are = subst (AreIntegers 2 plane_series) plane_integers_are (integers_are 2 plane_series plane_normalized)
 
 -- so neither the lines alone nor both with one sign are its integers
 not_without_conics : AreIntegers 2 plane_series

@@ -22,11 +22,7 @@ use Rattle.tv_laws_katz.proofs.FurtherInteger.{IsFactorOf, factors-are}
 use Rattle.tv_lemmas.proofs.Multiplied.{one-mul}
 use Rattle.tv_laws_katz.proofs.Units.{unit-none, product-low}
 use Rattle.tv_laws_katz.proofs.Outside.{IsClosed, outside}
-
-pub length-difference : (u v : List ℤ) → length (class_difference u v) ≡ length u
-length-difference [] v = refl
-length-difference (x ∷ u) [] = refl
-length-difference (x ∷ u) (y ∷ v) = ap suc (length-difference u v)
+use Rattle.tv_spec_boxes.proofs.Vectors.{length-difference}
 
 pub degree-difference : (hs u v : List ℤ) → length u ≡ length hs → length v ≡ length hs →
     degree_of hs (class_difference u v) ≡ degree_of hs u -ℤ degree_of hs v

@@ -98,7 +98,7 @@ unchanged hs i is v n positive earlier =
     further.1 ∙ omega (arith, ints, ap (λ z. power_sign (unsigned_abs n) *ℤ z) none, *ℤ-zero (power_sign (unsigned_abs n)))
 
 -- at its own place one factor stands: in genus 0 that of y, in a higher genus that of the lowest power of y
-zero-class : (v : List ℤ) → is_zero_class (class_difference v v) ≡ true
+pub zero-class : (v : List ℤ) → is_zero_class (class_difference v v) ≡ true
 zero-class [] = refl
 zero-class (x ∷ v) =
     let none : x -ℤ x ≡ pos 0 = omega (arith, ints) in

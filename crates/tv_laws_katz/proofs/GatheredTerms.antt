@@ -40,7 +40,7 @@ total-size_of f g [] same = omega (arith, ints)
 total-size_of f g (x ∷ xs) same = omega (arith, ints, same x, total-size_of f g xs same)
 
 -- the size of an exponent
-abbrev power_size : Factor → ℤ
+abbrev pub power_size : Factor → ℤ
 power_size f = pos (unsigned_abs f.power)
 
 total_in-size : (fs : List Factor) (B : List ℤ) (m : ℤ) → pos (unsigned_abs (power_in fs B m)) ≤ℤ total_in power_size fs B m

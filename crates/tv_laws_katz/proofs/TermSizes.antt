@@ -121,3 +121,14 @@ sizes_of_factor_terms hs w D J is v n within most low =
     let fs = factors hs J is in
     let whole = sizes_of_terms D fs (place hs v n) (factors-rise hs J is (positive-all hs w is within)) most in
     rw (product-absolute hs w is v n J within low) whole
+
+-- ---- powers and products without sign are at least 0
+
+pub power-up : (m k : ℕ) → pos 0 ≤ℤ power_at (neg_ℤ (pos m)) k
+unfolding power_at binomial choose
+power-up zero zero = omega (arith, ints)
+power-up zero (suc k) = let none = *ℤ-zero (power_sign (suc k)) in omega (arith, ints)
+power-up (suc m) k = rw (power_at-negsuc m k) (omega (arith, ints))
+
+pub product-up : (fs : List Factor) (p : Place) → pos 0 ≤ℤ product (map without_sign fs) p
+product-up fs p = omega (arith, ints, size_of_product fs p)

@@ -32,10 +32,10 @@ use Rattle.tv_laws_katz.specs.Weights.{IsWithinSlope}
 use Rattle.tv_laws_katz.specs.Logarithm.{when}
 use Rattle.tv_laws_katz.specs.Gathered.{power_in}
 use Rattle.tv_laws_katz.proofs.BelowSums.{sum_below-front}
-use Rattle.tv_laws_katz.proofs.FurtherInteger.{IsFactorOf, factors-are}
+use Rattle.tv_laws_katz.proofs.FurtherInteger.{IsFactorOf, factors-are, zero-class}
 use Rattle.tv_laws_katz.proofs.LargerBound.{product-absolute}
 use Rattle.tv_laws_katz.proofs.Powers.{power_at-zero, power_at-one, power_at-negsuc}
-use Rattle.tv_laws_katz.proofs.TermSizes.{size_of_product, scaled-size}
+use Rattle.tv_laws_katz.proofs.TermSizes.{size_of_product, scaled-size, power-up, product-up}
 use Rattle.tv_laws_katz.proofs.Units.{unit-one}
 use Rattle.tv_laws_majorant.specs.Laws.{size_in, LeadsAreBounded, PowersAreBounded}
 
@@ -112,15 +112,6 @@ unfolding sum_below
 sum_below-up f zero up = omega (arith, ints)
 sum_below-up f (suc n) up = omega (arith, ints, sum_below-up f n up, up n)
 
-power-up : (m k : ℕ) → pos 0 ≤ℤ power_at (neg_ℤ (pos m)) k
-unfolding power_at binomial choose
-power-up zero zero = omega (arith, ints)
-power-up zero (suc k) = let none = *ℤ-zero (power_sign (suc k)) in omega (arith, ints)
-power-up (suc m) k = rw (power_at-negsuc m k) (omega (arith, ints))
-
-product-up : (fs : List Factor) (p : Place) → pos 0 ≤ℤ product (map without_sign fs) p
-product-up fs p = omega (arith, ints, size_of_product fs p)
-
 -- ---- the first two powers of a factor without sign
 
 abbrev term : Factor → List Factor → Place → ℕ → ℤ
@@ -182,15 +173,9 @@ pub record IsPlaced (hs : List ℤ) (f : Factor) : Type 0 where
   pub graded : f.at ≡ place hs f.at.class f.at.exponent
   pub rising : pos 1 ≤ℤ f.at.degree
 
-no-class : (v : List ℤ) → is_zero_class (class_difference v v) ≡ true
-no-class [] = refl
-no-class (x ∷ v) =
-    let none : x -ℤ x ≡ pos 0 = omega (arith, ints) in
-    rw (none, no-class v) refl
-
 none-left : (p : Place) → unit (difference p p) ≡ pos 1
 none-left p = unit-one (difference p p)
-    (record { degree = omega (arith, ints); class = no-class p.class; exponent = omega (arith, ints) })
+    (record { degree = omega (arith, ints); class = zero-class p.class; exponent = omega (arith, ints) })
 
 at-place : (hs v : List ℤ) (n : ℤ) (f : Factor) → IsPlaced hs f → f.at.class ≡ v → f.at.exponent ≡ n → f.at ≡ place hs v n
 at-place hs v n f is c e = is.graded ∙ (ap (λ u. place hs u f.at.exponent) c ∙ ap (λ m. place hs v m) e)

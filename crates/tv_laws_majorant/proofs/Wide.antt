@@ -25,6 +25,7 @@ use Rattle.tv_laws_katz.specs.Weights.{IsWithinSlope}
 use Rattle.tv_laws_majorant.specs.Laws.{least_wide_genus, WidePowers, GenusIsWide, WideMajorant, IsWideAmong, SteepIsWide}
 use Rattle.tv_laws_majorant.proofs.Central.{central_wide}
 use Rattle.tv_laws_majorant.proofs.Leads.{size_of_member, sizes_below, factors-placed, leads_are_bounded}
+use Rattle.tv_lemmas.proofs.Tests.{eq-on, most-true}
 
 -- ---- the factor in the middle
 
@@ -117,25 +118,19 @@ wide_powers N f w is v n J within low positive wide =
 
 -- ---- the majorant there
 
-at_most_true : (a b : ℤ) → a ≤ℤ b → int_le a b ≡ true
-at_most_true a b h = grind (arith, ints)
-
-same_true : (a b : ℕ) → a ≡ b → nat_eq a b ≡ true
-same_true a b e = grind (arith, nat_tests)
-
 counted-true : (D : ℕ) (hs : List ℤ) (i : Integer) → IsInteger D hs i → is_counted_class D hs i.class ≡ true
 counted-true D hs i own =
     let up = own.positive.degree in
-    let entries : nat_eq (length i.class) (length hs) ≡ true = same_true (length i.class) (length hs) own.positive.entries in
-    let least = at_most_true (pos 0) (degree_of hs i.class) (omega (arith, ints)) in
-    rw (entries, least) (at_most_true (degree_of hs i.class) (pos D) own.within)
+    let entries : nat_eq (length i.class) (length hs) ≡ true = eq-on (length i.class) (length hs) own.positive.entries in
+    let least = most-true (pos 0) (degree_of hs i.class) (omega (arith, ints)) in
+    rw (entries, least) (most-true (degree_of hs i.class) (pos D) own.within)
 
 pub wide_majorant : WideMajorant
 unfolding majorant
 wide_majorant D N f is i order among high within =
     let own = all-contains (IsInteger D f.heights) is i (each_integer D f.heights is order) among in
     let counts = counted-true D f.heights i own in
-    let ends = at_most_true (pos 0) (majorant_end D N f is) (omega (arith, ints)) in
+    let ends = most-true (pos 0) (majorant_end D N f is) (omega (arith, ints)) in
     rw (counts, ends) (genus_is_wide D N f is i order among high)
 
 -- ---- a great slope

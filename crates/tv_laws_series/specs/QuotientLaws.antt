@@ -12,13 +12,17 @@ use Rattle.tv_laws_series.specs.SeriesLaws.{HasValues}
 use Rattle.tv_laws_series.specs.Quotients.{series_quotient, quotient_upto, IsUnitSeries}
 
 abbrev pub QuotientTimesDivisor : {A : Type 0} → (A → Type 0) → Operations A → Type 0
-QuotientTimesDivisor {A} IsValue r = (a b : Terms A) → HasValues IsValue r a → HasValues IsValue r b → IsUnitSeries r b → series_product r (series_quotient r a b) b ≡ series_cut (quotient_upto a b) a
+QuotientTimesDivisor {A} IsValue r = (a b : Terms A) → HasValues IsValue r a → HasValues IsValue r b → IsUnitSeries r b
+    → series_product r (series_quotient r a b) b ≡ series_cut (quotient_upto a b) a
 
 abbrev pub DivisionUndoes : {A : Type 0} → (A → Type 0) → Operations A → Type 0
-DivisionUndoes {A} IsValue r = (d b : Terms A) → HasValues IsValue r d → HasValues IsValue r b → IsUnitSeries r b → series_quotient r (series_product r d b) b ≡ series_cut (quotient_upto d b) d
+DivisionUndoes {A} IsValue r = (d b : Terms A) → HasValues IsValue r d → HasValues IsValue r b → IsUnitSeries r b
+    → series_quotient r (series_product r d b) b ≡ series_cut (quotient_upto d b) d
 
 abbrev pub OnlyQuotient : {A : Type 0} → (A → Type 0) → Operations A → Type 0
-OnlyQuotient {A} IsValue r = (a b d : Terms A) → HasValues IsValue r a → HasValues IsValue r b → HasValues IsValue r d → IsUnitSeries r b → d.low ≡ a.low → upto d ≡ quotient_upto a b → series_product r d b ≡ series_cut (quotient_upto a b) a → d ≡ series_quotient r a b
+OnlyQuotient {A} IsValue r = (a b d : Terms A) → HasValues IsValue r a → HasValues IsValue r b → HasValues IsValue r d
+    → IsUnitSeries r b → d.low ≡ a.low → upto d ≡ quotient_upto a b → series_product r d b ≡ series_cut (quotient_upto a b) a
+    → d ≡ series_quotient r a b
 
 abbrev pub QuotientHasValues : {A : Type 0} → (A → Type 0) → Operations A → Type 0
 QuotientHasValues {A} IsValue r = (a b : Terms A) → HasValues IsValue r a → HasValues IsValue r b → HasValues IsValue r (series_quotient r a b)

@@ -13,7 +13,10 @@ HasValues IsValue r a = AreValues IsValue (at r a.coefficients)
 
 pub record SeriesLaws {A : Type 0} (IsValue : A → Type 0) (r : Operations A) : Type 0 where
   pub sum_comm : (a b : Terms A) → HasValues IsValue r a → HasValues IsValue r b → series_sum r a b ≡ series_sum r b a
-  pub sum_assoc : (a b c : Terms A) → HasValues IsValue r a → HasValues IsValue r b → HasValues IsValue r c → series_sum r (series_sum r a b) c ≡ series_sum r a (series_sum r b c)
+  pub sum_assoc : (a b c : Terms A) → HasValues IsValue r a → HasValues IsValue r b → HasValues IsValue r c
+      → series_sum r (series_sum r a b) c ≡ series_sum r a (series_sum r b c)
   pub product_comm : (a b : Terms A) → HasValues IsValue r a → HasValues IsValue r b → series_product r a b ≡ series_product r b a
-  pub product_assoc : (a b c : Terms A) → HasValues IsValue r a → HasValues IsValue r b → HasValues IsValue r c → series_product r (series_product r a b) c ≡ series_product r a (series_product r b c)
-  pub product-sum : (a b c : Terms A) → HasValues IsValue r a → HasValues IsValue r b → HasValues IsValue r c → series_product r a (series_sum r b c) ≡ series_sum r (series_product r a b) (series_product r a c)
+  pub product_assoc : (a b c : Terms A) → HasValues IsValue r a → HasValues IsValue r b → HasValues IsValue r c
+      → series_product r (series_product r a b) c ≡ series_product r a (series_product r b c)
+  pub product-sum : (a b c : Terms A) → HasValues IsValue r a → HasValues IsValue r b → HasValues IsValue r c
+      → series_product r a (series_sum r b c) ≡ series_sum r (series_product r a b) (series_product r a c)

@@ -16,7 +16,7 @@ use Rattle.tv_spec_partial.specs.Partial.{is_pending, pending, rests_on, chosen,
 use Rattle.tv_laws_signs.specs.PartialLaws.{WholeIsPartial}
 
 -- both corners of the edge are among the first n
-abbrev IsInside : ℕ → CompactEdge → Type 0
+abbrev pub IsInside : ℕ → CompactEdge → Type 0
 IsInside n e = (nat_lt e.corner_c n ≡ true) × (nat_lt e.corner_d n ≡ true)
 
 abbrev AreBelow : ℕ → List ℕ → Type 0
@@ -58,12 +58,12 @@ pub compact_inside : (w : Web) → AllByRecursion (IsInside (length w.triangles)
 unfolding compact
 compact_inside w = gathered (length w.triangles) (λ p. compact_by w p.0 p.1 (owners w p.0 p.1)) (pairs (length w.points)) (λ p. by_inside w (length w.triangles) p.0 p.1 (owners w p.0 p.1) (owners_below w p.0 p.1))
 
-rests : (n : ℕ) (es : List CompactEdge) (a : Assignment) → AllByRecursion (IsInside n) es → rests_on n es a ≡ true
+pub rests : (n : ℕ) (es : List CompactEdge) (a : Assignment) → AllByRecursion (IsInside n) es → rests_on n es a ≡ true
 rests n [] a all = refl
 rests n (e ∷ es) [] all = refl
 rests n (e ∷ es) (d ∷ a) all = rw (all.0.0) (rests n es a all.1)
 
-nothing_chosen : (n : ℕ) (es : List CompactEdge) (a : Assignment) → AllByRecursion (IsInside n) es → chosen n es a ≡ []
+pub nothing_chosen : (n : ℕ) (es : List CompactEdge) (a : Assignment) → AllByRecursion (IsInside n) es → chosen n es a ≡ []
 nothing_chosen n [] a all = refl
 nothing_chosen n (e ∷ es) [] all = refl
 nothing_chosen n (e ∷ es) (d ∷ a) all = rw (all.0.0, all.0.1) (nothing_chosen n es a all.1)

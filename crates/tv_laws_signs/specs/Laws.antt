@@ -15,10 +15,13 @@ abbrev pub TwistParity : Type 0
 TwistParity = (w : Web) (a : Assignment) → HasEdgeRule w → parity (even_sum w.points (class_of w a)) ≡ parity (edge_twist w a)
 
 abbrev pub ConfigurationSign : Type 0
-ConfigurationSign = (w : Web) (fixed : List Rows) (c : Configuration) → HasEdgeRule w → configuration_sign w fixed c ≡ class_sign w.points (class_of w c.diagrams) (chi_of w fixed c)
+ConfigurationSign = (w : Web) (fixed : List Rows) (c : Configuration) → HasEdgeRule w
+    → configuration_sign w fixed c ≡ class_sign w.points (class_of w c.diagrams) (chi_of w fixed c)
 
 abbrev pub OneSign : Type 0
-OneSign = (w : Web) (fixed : List Rows) (v : List ℤ) (n : ℤ) → HasEdgeRule w → AllByRecursion (λ c. configuration_sign w fixed c ≡ class_sign w.points v n) (configurations w fixed v n)
+OneSign = (w : Web) (fixed : List Rows) (v : List ℤ) (n : ℤ) → HasEdgeRule w
+    → AllByRecursion (λ c. configuration_sign w fixed c ≡ class_sign w.points v n) (configurations w fixed v n)
 
 abbrev pub CountedSign : Type 0
-CountedSign = (w : Web) (fixed : List Rows) (v : List ℤ) (n : ℤ) → HasEdgeRule w → signed_count w fixed v n ≡ class_sign w.points v n *ℤ pos (length (configurations w fixed v n))
+CountedSign = (w : Web) (fixed : List Rows) (v : List ℤ) (n : ℤ) → HasEdgeRule w
+    → signed_count w fixed v n ≡ class_sign w.points v n *ℤ pos (length (configurations w fixed v n))

@@ -12,7 +12,8 @@ use Rattle.tv_spec_boxes.specs.Configurations.{Configuration, signed_count}
 use Rattle.tv_spec_partial.specs.Partial.{pending, partial_chi, partial_sign, partial_count}
 
 abbrev pub PartialSign : Type 0
-PartialSign = (w : Web) (t : ℕ) (c : Configuration) → HasEdgeRule w → partial_sign w t c ≡ class_sign w.points (class_of w c.diagrams) (partial_chi w t c)
+PartialSign = (w : Web) (t : ℕ) (c : Configuration) → HasEdgeRule w
+    → partial_sign w t c ≡ class_sign w.points (class_of w c.diagrams) (partial_chi w t c)
 
 pub record IsWholeSum (w : Web) : Type 0 where
   pub none : pending w (length w.triangles) ≡ []

@@ -13,9 +13,9 @@ use Rattle.tv_lemmas.proofs.Members.{all-map, all-flat_map, all-filter, all-any,
 use Rattle.tv_lemmas.proofs.Distinct.{distinct-filter, distinct-map, distinct-flat_map}
 use Rattle.tv_cells.specs.declared.legs.Legs.{Legs}
 use Rattle.tv_cells.specs.Extras.{bit, extent, AreDiagrams}
-use Rattle.tv_spec_slices.specs.Slices.{Shape, interlaces, fits, extras_of}
+use Rattle.tv_spec_slices.specs.Slices.{Shape, interlaces, fits, extras_of, same_shape}
 use Rattle.tv_spec_slices.specs.Paths.{fitting, diagonal_at, ways, paths}
-use Rattle.tv_laws_slices.specs.Laws.{same_shape, often, IsChain, IsPath, PathsAreChains}
+use Rattle.tv_laws_slices.specs.Laws.{often, IsChain, IsPath, PathsAreChains}
 use Rattle.tv_laws_slices.proofs.Once.{once-all}
 use Rattle.tv_laws_slices.proofs.Pushed.{same-shape, own-shape, listed-often, fitting-fits}
 

@@ -17,9 +17,9 @@ use Rattle.tv_partition.specs.Rows.{has, reach as rows_reach}
 use Rattle.tv_partition.proofs.Shapes.{has-below, row-past}
 use Rattle.tv_cells.specs.declared.legs.Legs.{Legs}
 use Rattle.tv_cells.specs.Extras.{bit, extent, AreDiagrams}
-use Rattle.tv_spec_slices.specs.Slices.{Shape, at, reach, covers, interlaces_at, interlaces, base, over, fits, extras_of, above, completion}
+use Rattle.tv_spec_slices.specs.Slices.{Shape, at, reach, covers, interlaces_at, interlaces, base, over, fits, extras_of, above, completion, same_shape}
 use Rattle.tv_spec_slices.specs.Paths.{fitting, diagonal_at, ways, paths, ways_at, start_for}
-use Rattle.tv_laws_slices.specs.Laws.{same_shape, often, EntriesAreBounded}
+use Rattle.tv_laws_slices.specs.Laws.{often, EntriesAreBounded}
 use Rattle.tv_laws_slices.proofs.Sums.{sum_of-filter, sum_of-zeros}
 use Rattle.tv_laws_slices.proofs.Bases.{endless-first}
 use Rattle.tv_laws_slices.proofs.Once.{once-all}

@@ -23,9 +23,9 @@ use Rattle.tv_laws_counts.proofs.Reaching.{extras_within}
 use Rattle.tv_laws_counts.proofs.Rises.{same_cell, rises-filter}
 use Rattle.tv_laws_counts.proofs.SetsOnce.{sublists-rise, sublist_listed, sublists-once}
 use Rattle.tv_laws_counts.proofs.Larger.{larger_count}
-use Rattle.tv_spec_slices.specs.Slices.{Shape}
+use Rattle.tv_spec_slices.specs.Slices.{Shape, same_shape}
 use Rattle.tv_laws_slices.specs.Taken.{taken}
-use Rattle.tv_laws_slices.specs.Laws.{same_shape, IsPath, AreAll, PathsAreCounted}
+use Rattle.tv_laws_slices.specs.Laws.{IsPath, AreAll, PathsAreCounted}
 use Rattle.tv_laws_slices.proofs.Pushed.{own-shape}
 use Rattle.tv_laws_slices.proofs.Chains.{paths-are-chains}
 use Rattle.tv_laws_slices.proofs.Closed.{paths-are-extras}

@@ -21,9 +21,9 @@ use Rattle.tv_lemmas.proofs.Distinct.{pointwise-tells}
 use Rattle.tv_cells.specs.declared.legs.Legs.{Legs}
 use Rattle.tv_cells.specs.Cells.{below}
 use Rattle.tv_cells.specs.Extras.{bit, extent, AreDiagrams}
-use Rattle.tv_spec_slices.specs.Slices.{Shape, interlaces, fits, extras_of, completion}
+use Rattle.tv_spec_slices.specs.Slices.{Shape, interlaces, fits, extras_of, completion, same_shape}
 use Rattle.tv_spec_slices.specs.Paths.{shape, fitting, diagonal_at, ways, next_of, start_for, ways_at, is_entry}
-use Rattle.tv_laws_slices.specs.Laws.{same_shape, often, EntriesPush}
+use Rattle.tv_laws_slices.specs.Laws.{often, EntriesPush}
 use Rattle.tv_laws_slices.proofs.Sums.{sum_of-map, sum_of-same, sum_of-zero, sum_of-filter}
 use Rattle.tv_laws_slices.proofs.Once.{once-all}
 use Rattle.tv_laws_slices.proofs.Steps.{completion-step}

@@ -12,10 +12,7 @@ use Rattle.std.proofs.lemmas.Bool.{cases_eq}
 use Rattle.std.proofs.lemmas.Bool.Decides.{nat_tests}
 use Rattle.tv_lemmas.specs.Sums.{sum_of}
 use Rattle.tv_spec_slices.specs.Paths.{down}
-
-pub sum_of-map : {A B : Type 0} (f : B → ℕ) (g : A → B) (xs : List A) → sum_of f (map g xs) ≡ sum_of (λ x. f (g x)) xs
-sum_of-map f g [] = refl
-sum_of-map f g (x ∷ xs) = ap (λ s. f (g x) + s) (sum_of-map f g xs)
+use Rattle.tv_lemmas.proofs.Sums.{sum_of-map}
 
 pub sum_of-same : {A : Type 0} (f g : A → ℕ) → ((x : A) → f x ≡ g x) → (xs : List A) → sum_of f xs ≡ sum_of g xs
 sum_of-same f g same [] = refl

@@ -1,6 +1,5 @@
 -- What is true of slices and of paths of them, as laws.
 --
--- same_shape a b == the two slices are one
 -- often s shapes == how many of the slices in the list are s
 -- SlicesOnce     == of legs that are diagrams, the lists of slices at t have exactly those that fit and have m extras, or
 --                   at most k extras, each once
@@ -27,12 +26,9 @@ use Rattle.tv_cells.specs.declared.cell.Cell.{Cell}
 use Rattle.tv_cells.specs.Cells.{rises}
 use Rattle.tv_cells.specs.declared.legs.Legs.{Legs}
 use Rattle.tv_cells.specs.Extras.{bit, extent, is_extras, count, AreDiagrams}
-use Rattle.tv_spec_slices.specs.Slices.{Shape, interlaces, fits, extras_of, completion}
+use Rattle.tv_spec_slices.specs.Slices.{Shape, interlaces, fits, extras_of, completion, same_shape}
 use Rattle.tv_laws_slices.specs.Taken.{taken}
 use Rattle.tv_spec_slices.specs.Paths.{fitting_by, fitting, diagonal_at, next_of, ways_at, is_entry, entries, paths}
-
-abbrev pub same_shape : Shape → Shape → Bool
-same_shape a b = nat_eq a.full b.full && pointwise nat_eq a.heights b.heights
 
 abbrev pub often : Shape → List Shape → ℕ
 often s shapes = sum_of (λ a. bit (same_shape s a)) shapes

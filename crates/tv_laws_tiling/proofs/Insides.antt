@@ -11,17 +11,10 @@ use Rattle.tv_laws_tiling.specs.Edges.{IsTurned}
 use Rattle.tv_lemmas.proofs.Signs.{nonneg-positive, mul-nonneg-nonneg, positive, positive-true, true-positive}
 use Rattle.tv_spec_plane.proofs.Turns.{turn-exchange}
 use Rattle.tv_laws_tiling.proofs.Turns.{side-sum, side-spread}
+use Rattle.tv_lemmas.proofs.Tests.{and-left, and-right}
 
 unfoldable pub inside : List Point → Rational → Triple → Bool
 inside ps p t = positive (side (at ps t.c) (at ps t.a) p) && (positive (side (at ps t.a) (at ps t.b) p) && positive (side (at ps t.b) (at ps t.c) p))
-
-and-left : (x y : Bool) → (x && y) ≡ true → x ≡ true
-and-left true y e = refl
-and-left false y e = e
-
-and-right : (x y : Bool) → (x && y) ≡ true → y ≡ true
-and-right true y e = e
-and-right false y e = cc
 
 and-true : (x y : Bool) → x ≡ true → y ≡ true → (x && y) ≡ true
 and-true x y e f = rw (e, f)

@@ -12,4 +12,5 @@ use Rattle.tv_laws_tiling.specs.Points.{AreSmall, AreDistinct, SpansPlane}
 
 -- not all on a line: two points alone are tiled by no triangles, but their two hull segments are no sides
 abbrev pub TilingTrianglesMatch : Type 0
-TilingTrianglesMatch = (ps : List Point) (ts : List Triple) (hull : List Segment) → AreSmall ps → AreDistinct ps → SpansPlane ps → IsHull ps hull → AreTurned ps ts → Tiles ps ts → IsMatched hull ts
+TilingTrianglesMatch = (ps : List Point) (ts : List Triple) (hull : List Segment) → AreSmall ps → AreDistinct ps → SpansPlane ps
+    → IsHull ps hull → AreTurned ps ts → Tiles ps ts → IsMatched hull ts

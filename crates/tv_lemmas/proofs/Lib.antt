@@ -7,3 +7,4 @@ pub mod Signs
 pub mod Sums
 pub mod Multiplied
 pub mod Naturals
+pub mod Tests

@@ -134,3 +134,7 @@ bits-one_at f d x xs false off rest e =
 pub bits-one : {A : Type 0} (f : A → Bool) (d : A) (xs : List A) → total (λ x. bit (f x)) xs ≡ pos 1 → (i : ℕ) × IsOnlyPlace f d xs i
 bits-one f d [] e = absurd (omega (arith, ints))
 bits-one f d (x ∷ xs) e = bits-one_at f d x xs (f x) refl (bits-one f d xs) e
+
+pub sum_of-map : {A B : Type 0} (f : B → ℕ) (g : A → B) (xs : List A) → sum_of f (map g xs) ≡ sum_of (λ x. f (g x)) xs
+sum_of-map f g [] = refl
+sum_of-map f g (x ∷ xs) = ap (λ s. f (g x) + s) (sum_of-map f g xs)

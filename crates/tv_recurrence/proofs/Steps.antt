@@ -21,12 +21,7 @@ use Rattle.tv_recurrence.proofs.NumberSums.{total_below-zero, total_below-add}
 use Rattle.tv_recurrence.specs.declared.part.Power.{Power}
 use Rattle.tv_recurrence.specs.Products.{power_by, same_step}
 use Rattle.tv_lemmas.proofs.Naturals.{nat_eq-tells}
-
-eq-on : (r s : ℕ) → r ≡ s → nat_eq r s ≡ true
-eq-on r s h = grind (arith, nat_tests)
-
-eq-off : (r s : ℕ) → (r ≡ s → ⊥) → nat_eq r s ≡ false
-eq-off r s h = grind (arith, nat_tests)
+use Rattle.tv_lemmas.proofs.Tests.{eq-on, eq-off}
 
 scaled-split : (d a b y : ℤ) → (d *ℤ neg_ℤ (a +ℤ b)) *ℤ y ≡ ((d *ℤ neg_ℤ a) *ℤ y) +ℤ ((d *ℤ neg_ℤ b) *ℤ y)
 scaled-split d a b y =

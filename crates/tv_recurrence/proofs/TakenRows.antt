@@ -22,7 +22,7 @@ pub record IsReadFrom (f : ℕ → ℤ) (rows : List (List ℤ)) (s t D : ℕ) :
   pub read : (j : ℕ) → j < D → suc j * s ≤ t → f j ≡ at wholes (row_at rows j) (t - suc j * s)
   pub none : (j : ℕ) → j < D → t < suc j * s → f j ≡ pos 0
 
-at-empty : (k : ℕ) → at wholes [] k ≡ pos 0
+pub at-empty : (k : ℕ) → at wholes [] k ≡ pos 0
 at-empty k = at_past wholes [] k (omega arith)
 
 -- without rows nothing is taken

@@ -18,12 +18,7 @@ use Rattle.tv_ring.specs.Whole.{wholes}
 use Rattle.tv_ring.specs.Sums.{at}
 use Rattle.tv_recurrence.specs.Parts.{taken_sum, taken_size}
 use Rattle.tv_lemmas.proofs.Naturals.{nat_lt-tells}
-
-below-on : (t s : ℕ) → t < s → nat_lt t s ≡ true
-below-on t s h = grind (arith, nat_tests)
-
-below-off : (t s : ℕ) → s ≤ t → nat_lt t s ≡ false
-below-off t s h = grind (arith, nat_tests)
+use Rattle.tv_lemmas.proofs.Tests.{below-on, below-off}
 
 above-tells : (t s : ℕ) → nat_lt t s ≡ false → s ≤ t
 above-tells t s h = grind (arith, nat_tests)

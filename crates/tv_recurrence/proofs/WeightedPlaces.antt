@@ -13,9 +13,10 @@ use Rattle.tv_spec_katz.specs.Places.{place, class_difference, difference, diffe
 use Rattle.tv_laws_katz.specs.Weights.{weight}
 use Rattle.tv_laws_katz.specs.Logarithm.{begins_at}
 use Rattle.tv_laws_katz.proofs.Differences.{place-same, difference_by-weight}
-use Rattle.tv_laws_katz.proofs.Elsewhere.{length-difference, degree-difference}
+use Rattle.tv_laws_katz.proofs.Elsewhere.{degree-difference}
 use Rattle.tv_lemmas.proofs.Multiplied.{suc-times}
 use Rattle.tv_recurrence.specs.Products.{class_after, at_weight}
+use Rattle.tv_spec_boxes.proofs.Vectors.{length-difference}
 
 difference-place : (hs v B : List ℤ) (n m : ℤ) → length v ≡ length hs → length B ≡ length hs →
     difference (place hs v n) (place hs B m) ≡ place hs (class_difference v B) (n -ℤ m)

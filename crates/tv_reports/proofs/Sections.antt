@@ -10,10 +10,10 @@ use Rattle.tv_ring.specs.Sums.{at}
 use Rattle.tv_laws_series.specs.Terms.{Terms, above, upto}
 use Rattle.tv_laws_series.proofs.Exponents.{above_is, above_adds}
 use Rattle.tv_lemmas.proofs.Members.{contains-head, contains-later}
-use Rattle.tv_spec_text.specs.Reports.{Term, Section, Rises, IsTerm, AreTerms}
+use Rattle.tv_spec_text.specs.Reports.{Term, Section, Rises, IsTerm, AreTerms, IsSmallTerm}
 use Rattle.tv_spec_series.specs.Families.{Row, Family, coefficient, IsRow}
 use Rattle.tv_laws_series.proofs.Coefficients.{coefficient_below, coefficient_at}
-use Rattle.tv_reports.specs.Sections.{IsSmallTerm, terms_from, terms_of, section_of, TellsRow, SectionsTell}
+use Rattle.tv_reports.specs.Sections.{terms_from, terms_of, section_of, TellsRow, SectionsTell}
 
 at_head : (x : ℤ) (xs : List ℤ) → at wholes (x ∷ xs) 0 ≡ x
 unfolding at

@@ -4,8 +4,6 @@
 -- terms_of t        == the terms of a series
 -- section_of hs row == the class of the row with its degree, and the terms of its series
 -- sections_of f     == the sections of the rows, in their order
--- IsSmallTerm t     == the coefficient is at most 2^127 - 1 in absolute value
--- IsSmall s         == each term of the section is so
 -- TellsRow f row s  == the section has the class of the row, its degree, and each coefficient other than 0 through the
 --                      exponent of the family
 -- SectionsTell      == in every family of series of whole numbers the section of each row tells that row
@@ -31,12 +29,6 @@ section_of hs row = record { degree = degree_of hs row.class; entries = row.clas
 
 abbrev pub sections_of : Family ℤ → List Section
 sections_of f = map (section_of f.heights) f.rows
-
-abbrev pub IsSmallTerm : Term → Type 0
-IsSmallTerm t = unsigned_abs t.coefficient ≤ 2 ^ 127 - 1
-
-abbrev pub IsSmall : Section → Type 0
-IsSmall s = AllByRecursion IsSmallTerm s.terms
 
 pub record TellsRow (f : Family ℤ) (row : Row ℤ) (s : Section) : Type 0 where
   pub degree : s.degree ≡ degree_of f.heights row.class

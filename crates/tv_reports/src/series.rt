@@ -5,10 +5,10 @@ ghost use Rattle.std.specs.List.{AllByRecursion};
 ghost use Rattle.tv_ring.specs.Sums.{at};
 ghost use Rattle.tv_ring.specs.Whole.{wholes};
 ghost use Rattle.tv_laws_series.specs.Terms.{above, upto};
-ghost use Rattle.tv_spec_text.specs.Reports.{series_text};
+ghost use Rattle.tv_spec_text.specs.Reports.{series_text, IsSmallTerm, IsSmall};
 ghost use Rattle.tv_spec_series.specs.Families.{Row};
 ghost use Rattle.tv_text.specs.Sections.{kind_word};
-ghost use Rattle.tv_reports.specs.Sections.{terms_from, terms_of, section_of, sections_of, IsSmallTerm, IsSmall};
+ghost use Rattle.tv_reports.specs.Sections.{terms_from, terms_of, section_of, sections_of};
 
 use std::alloc::{AllocError, Global};
 use tv_graded::{Entry, Graded};

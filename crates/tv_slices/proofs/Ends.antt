@@ -14,11 +14,9 @@ use Rattle.tv_laws_series.specs.Terms.{listed}
 use Rattle.tv_cells.specs.declared.legs.Legs.{Legs}
 use Rattle.tv_cells.specs.Cells.{x_from, y_from, sublists_of}
 use Rattle.tv_cells.specs.Extras.{extent, count, AreDiagrams}
-use Rattle.tv_spec_slices.specs.Slices.{Shape, base, fits, extras_of, completion, above, reach}
+use Rattle.tv_spec_slices.specs.Slices.{Shape, base, fits, extras_of, completion, above, reach, same_shape}
 use Rattle.tv_spec_slices.specs.Slices.{at as height_at}
 use Rattle.tv_spec_slices.specs.Paths.{fitting, ways, ways_at, start_for, paths}
-use Rattle.tv_interlace.specs.Same.{same}
-use Rattle.tv_laws_slices.specs.Laws.{same_shape}
 use Rattle.tv_laws_slices.proofs.Sums.{sum_of-zero, sum_of-zeros}
 use Rattle.tv_laws_slices.proofs.Pushed.{same-shape, start-low}
 use Rattle.tv_laws_slices.proofs.Least.{row-earlier}
@@ -50,7 +48,7 @@ first_ways legs k t s c e =
 pub first-table : {A : Type 0} (r : Operations A) (legs : Legs) (k : ℕ) (t : ℤ) (row : Row A) (rows : List (Shape × Row A)) → AreDiagrams legs → t ≡ neg_ℤ (pos (k + extent legs)) →
     row.counts.items ≡ numbers r at_start (known legs k t (bare legs t)) → row.least ≡ 0 → rows ≡ (bare legs t, row) ∷ [] → IsTable r legs k t (ways_to legs k t) rows
 first-table {A} r legs k t row rows are at_t counts least is = subst (IsTable r legs k t (ways_to legs k t)) (sym is) (record {
-  each = λ s. decided s (same s (bare legs t)) refl;
+  each = λ s. decided s (same_shape s (bare legs t)) refl;
   suits = ((suits.0, few (extras_of legs t (bare legs t)) suits.1), tt);
 })
   where
@@ -73,7 +71,7 @@ first-table {A} r legs k t row rows are at_t counts least is = subst (IsTable r 
     has : HasRow r (ways_to legs k t (bare legs t)) (known legs k t (bare legs t)) row
     has = row-same r at_start (ways_to legs k t (bare legs t)) (known legs k t (bare legs t)) row (λ c l. one c) (record { counts = counts; least = λ c l m. none c (at_start c ≡ 0) m })
 
-    nothing : (s : Shape) (c : ℕ) (p : Bool) → same s (bare legs t) ≡ false → fits legs t s ≡ p → cond p (ways_at legs k t s c) 0 ≡ 0
+    nothing : (s : Shape) (c : ℕ) (p : Bool) → same_shape s (bare legs t) ≡ false → fits legs t s ≡ p → cond p (ways_at legs k t s c) 0 ≡ 0
     nothing s c true off f = first_ways legs k t s c at_t ∙ (ap (λ q. cond (nat_eq c 0 && q) 1 0) (others-have legs t s are off f) ∙ both (nat_eq c 0))
       where
         both : (q : Bool) → ◌≡◌ {A = ℕ} (cond (q && false) 1 0) 0
@@ -81,7 +79,7 @@ first-table {A} r legs k t row rows are at_t counts least is = subst (IsTable r 
         both false = refl
     nothing s c false off f = refl
 
-    decided : (s : Shape) (q : Bool) → same s (bare legs t) ≡ q → MatchOption (cond q (Some row) None) ((c : ℕ) → c < known legs k t s → ways_to legs k t s c ≡ 0) (HasRow r (ways_to legs k t s) (known legs k t s))
+    decided : (s : Shape) (q : Bool) → same_shape s (bare legs t) ≡ q → MatchOption (cond q (Some row) None) ((c : ℕ) → c < known legs k t s → ways_to legs k t s c ≡ 0) (HasRow r (ways_to legs k t s) (known legs k t s))
     decided s true e = subst (λ x. HasRow r (ways_to legs k t x) (known legs k t x) row) (sym (same-shape s (bare legs t) e)) has
     decided s false e = λ c l. nothing s c (fits legs t s) e refl
 
@@ -151,14 +149,14 @@ bare-completion legs k are = sum_of-zero (above legs (pos (k + extent legs)) (ba
     each d = sum_of-zeros (λ y. cond (has legs.along_z (d + (k + extent legs)) y) 0 (height_at (bare legs (pos (k + extent legs))) d - base legs (d + (k + extent legs)) y)) 0 (d + 0) (λ y p l. one d y (omega arith))
 
 pub read-last : {A : Type 0} (r : Operations A) (legs : Legs) (k n : ℕ) (rows : List (Shape × Row A)) (xs : List A) → AreDiagrams legs → IsTable r legs k (pos (k + extent legs)) (ways_to legs k (pos (k + extent legs))) rows →
-    n ≡ k + 1 → xs ≡ listed (at r (counts_of (lookup (same (bare legs (pos (k + extent legs)))) rows))) n → xs ≡ numbers r (count legs) (suc k)
+    n ≡ k + 1 → xs ≡ listed (at r (counts_of (lookup (same_shape (bare legs (pos (k + extent legs)))) rows))) n → xs ≡ numbers r (count legs) (suc k)
 unfolding numbers
 read-last {A} r legs k n rows xs are table en is =
     let far = k + extent legs in
     let more : k + 1 ≡ suc k = omega arith in
-    is ∙ (ap (listed (at r (counts_of (lookup (same (bare legs (pos far))) rows)))) (en ∙ more)
-    ∙ listed-same r (at r (counts_of (lookup (same (bare legs (pos far))) rows))) (λ c. times r (count legs c)) (suc k)
-    (λ c l. by c l (lookup (same (bare legs (pos far))) rows) (table.each (bare legs (pos far))) ∙ ap (times r) (last-counts legs k c are (within c l))))
+    is ∙ (ap (listed (at r (counts_of (lookup (same_shape (bare legs (pos far))) rows)))) (en ∙ more)
+    ∙ listed-same r (at r (counts_of (lookup (same_shape (bare legs (pos far))) rows))) (λ c. times r (count legs c)) (suc k)
+    (λ c l. by c l (lookup (same_shape (bare legs (pos far))) rows) (table.each (bare legs (pos far))) ∙ ap (times r) (last-counts legs k c are (within c l))))
   where
     within : (c : ℕ) → c < suc k → c ≤ k
     within c l = omega arith

@@ -10,10 +10,9 @@ use Rattle.tv_lemmas.proofs.Sums.{sum_of-append, sum_of-one}
 use Rattle.tv_ring.specs.Operations.{Operations, limit}
 use Rattle.tv_cells.specs.declared.legs.Legs.{Legs}
 use Rattle.tv_cells.specs.Extras.{bit, extent, count, AreDiagrams}
-use Rattle.tv_spec_slices.specs.Slices.{Shape, fits, interlaces, extras_of, completion}
+use Rattle.tv_spec_slices.specs.Slices.{Shape, fits, interlaces, extras_of, completion, same_shape}
 use Rattle.tv_spec_slices.specs.Paths.{fitting, next_of, ways_at}
-use Rattle.tv_interlace.specs.Same.{same}
-use Rattle.tv_laws_slices.specs.Laws.{same_shape, often}
+use Rattle.tv_laws_slices.specs.Laws.{often}
 use Rattle.tv_laws_slices.proofs.Sums.{sum_of-same, sum_of-zero, sum_of-filter}
 use Rattle.tv_laws_slices.proofs.Once.{once-all}
 use Rattle.tv_laws_slices.proofs.Steps.{completion-step, sum_of-add}
@@ -26,11 +25,11 @@ use Rattle.tv_slices.proofs.Numbers.{more-wide}
 use Rattle.tv_slices.proofs.Put.{table-same, row-same}
 use Rattle.tv_slices.proofs.Neighbours.{take-next, take-whole, sum-take}
 
-turned : (a b : Shape) → same a b ≡ same_shape b a
-turned a b = elim (cases_Bool (same a b)) [
+turned : (a b : Shape) → same_shape a b ≡ same_shape b a
+turned a b = elim (cases_Bool (same_shape a b)) [
   | inl on ↦ on ∙ sym (subst (λ x. same_shape x a ≡ true) (same-shape a b on) (own-shape a))
   | inr off ↦ elim (cases_Bool (same_shape b a)) [
-    | inl on ↦ let back : same a b ≡ true = subst (λ x. same x b ≡ true) (same-shape b a on) (own-shape b) in absurd (cc)
+    | inl on ↦ let back : same_shape a b ≡ true = subst (λ x. same_shape x b ≡ true) (same-shape b a on) (own-shape b) in absurd (cc)
     | inr none ↦ off ∙ sym none
   ]
 ]
@@ -58,7 +57,7 @@ pushed-is legs k t m a s c are =
     let value : Shape → ℕ = λ b. cond (interlaces t a b) (cond (nat_le (extras_of legs u b) c) (ways_at legs k t a (c - extras_of legs u b)) 0) 0 in
     sum_of-filter (λ b. given (ways_at legs k t a) b (extras_of legs u b) s c) (interlaces t a) (fitting legs u m)
     ∙ (sum_of-same (λ b. cond (interlaces t a b) (given (ways_at legs k t a) b (extras_of legs u b) s c) 0) (λ b. cond (same_shape s b) (value b) 0)
-    (λ b. joined (interlaces t a b) (same b s) (nat_le (extras_of legs u b) c) (ways_at legs k t a (c - extras_of legs u b)) ∙ ap (λ q. cond q (value b) 0) (turned b s)) (fitting legs u m)
+    (λ b. joined (interlaces t a b) (same_shape b s) (nat_le (extras_of legs u b) c) (ways_at legs k t a (c - extras_of legs u b)) ∙ ap (λ q. cond q (value b) 0) (turned b s)) (fitting legs u m)
     ∙ (single s value (fitting legs u m) (fits legs u s && nat_le (extras_of legs u s) m) (once-all legs u m s are)
     ∙ split (fits legs u s) (nat_le (extras_of legs u s) m) (value s)))
 
@@ -110,28 +109,28 @@ unfoldable pub shares : {V : Type 0} → Legs → ℕ → ℤ → List (Shape ×
 shares legs k t rows s c = sum_of (λ e. share legs k t s e.0 c) rows
 
 -- each of a list, with the keys taken apart
-same-sum : {V : Type 0} (F : Shape → ℕ) (xs : List Shape) (rows : List (Shape × V)) → AllByRecursion (λ e. often e.0 xs ≡ 1) rows → IsDistinct same (keys_of rows) →
-    sum_of F xs ≡ sum_of (λ e. F e.0) rows + sum_of (λ a. cond (is_some (lookup (same a) rows)) 0 (F a)) xs
+same-sum : {V : Type 0} (F : Shape → ℕ) (xs : List Shape) (rows : List (Shape × V)) → AllByRecursion (λ e. often e.0 xs ≡ 1) rows → IsDistinct same_shape (keys_of rows) →
+    sum_of F xs ≡ sum_of (λ e. F e.0) rows + sum_of (λ a. cond (is_some (lookup (same_shape a) rows)) 0 (F a)) xs
 unfolding IsDistinct
 same-sum F xs [] all distinct = omega arith
 same-sum {V} F xs (e ∷ rows) all distinct =
     let rest = same-sum F xs rows all.1 distinct.1 in
-    let parts = sum_of-same (λ a. cond (is_some (lookup (same a) rows)) 0 (F a)) (λ a. cond (same_shape e.0 a) (F a) 0 + cond (is_some (lookup (same a) (e ∷ rows))) 0 (F a)) (λ a. part a (same a e.0) refl) xs
-    ∙ sym (sum_of-add (λ a. cond (same_shape e.0 a) (F a) 0) (λ a. cond (is_some (lookup (same a) (e ∷ rows))) 0 (F a)) xs) in
+    let parts = sum_of-same (λ a. cond (is_some (lookup (same_shape a) rows)) 0 (F a)) (λ a. cond (same_shape e.0 a) (F a) 0 + cond (is_some (lookup (same_shape a) (e ∷ rows))) 0 (F a)) (λ a. part a (same_shape a e.0) refl) xs
+    ∙ sym (sum_of-add (λ a. cond (same_shape e.0 a) (F a) 0) (λ a. cond (is_some (lookup (same_shape a) (e ∷ rows))) 0 (F a)) xs) in
     let here = single e.0 F xs true all.0 in
     sums (sum_of F xs) (F e.0) (sum_of (λ e. F e.0) rows) _ _ _ rest parts here
   where
     sums : (w f m n p q : ℕ) → w ≡ m + n → n ≡ p + q → p ≡ f → w ≡ (f + m) + q
     sums w f m n p q a b d = omega arith
 
-    absent : (a : Shape) (es : List (Shape × V)) → AllByRecursion (λ y. same a y ≡ false) (keys_of es) → lookup (same a) es ≡ None
+    absent : (a : Shape) (es : List (Shape × V)) → AllByRecursion (λ y. same_shape a y ≡ false) (keys_of es) → lookup (same_shape a) es ≡ None
     absent a [] none = refl
     absent a (f ∷ es) none = rw none.0 (absent a es none.1)
 
-    part : (a : Shape) (q : Bool) → same a e.0 ≡ q → cond (is_some (lookup (same a) rows)) 0 (F a) ≡ cond (same_shape e.0 a) (F a) 0 + cond (is_some (cond (same a e.0) (Some e.1) (lookup (same a) rows))) 0 (F a)
+    part : (a : Shape) (q : Bool) → same_shape a e.0 ≡ q → cond (is_some (lookup (same_shape a) rows)) 0 (F a) ≡ cond (same_shape e.0 a) (F a) 0 + cond (is_some (cond (same_shape a e.0) (Some e.1) (lookup (same_shape a) rows))) 0 (F a)
     part a true on =
         let one : a ≡ e.0 = same-shape a e.0 on in
-        let none : lookup (same a) rows ≡ None = subst (λ b. lookup (same b) rows ≡ None) (sym one) (absent e.0 rows distinct.0) in
+        let none : lookup (same_shape a) rows ≡ None = subst (λ b. lookup (same_shape b) rows ≡ None) (sym one) (absent e.0 rows distinct.0) in
         rw (on, none, sym (turned a e.0) ∙ on) (nought (F a))
       where
         nought : (v : ℕ) → v ≡ v + 0
@@ -171,7 +170,7 @@ module _ {A : Type 0} (r : Operations A) (legs : Legs) (k : ℕ) (t : ℤ) (are 
       table-same r legs k (t +ℤ pos 1) (with_slice legs k t (k - row.least) a (shares legs k t (take i es))) (shares legs k t (take (i + 1) es)) rows (λ s c l. one_more i a row s c e has l) table
 
   module _ (table : IsTable r legs k t (ways_to legs k t) es) where
-    pub row-of : (a : Shape) (row : Row A) → lookup (same a) es ≡ Some row → fits legs t a ≡ true → HasRow r (ways_at legs k t a) (known legs k t a) row
+    pub row-of : (a : Shape) (row : Row A) → lookup (same_shape a) es ≡ Some row → fits legs t a ≡ true → HasRow r (ways_at legs k t a) (known legs k t a) row
     row-of a row e f =
         let has : HasRow r (ways_to legs k t a) (known legs k t a) row = subst (λ o. MatchOption o ((c : ℕ) → c < known legs k t a → ways_to legs k t a c ≡ 0) (HasRow r (ways_to legs k t a) (known legs k t a))) e (table.each a) in
         row-same r (ways_to legs k t a) (ways_at legs k t a) (known legs k t a) row (λ c l. ap (λ q. cond q (ways_at legs k t a c) 0) f) has
@@ -192,7 +191,7 @@ module _ {A : Type 0} (r : Operations A) (legs : Legs) (k : ℕ) (t : ℤ) (are 
         by (e ∷ es) all = (once-all legs t k e.0 are ∙ rw (all.0.0, le-leb (extras_of legs t e.0) k all.0.1) refl, by es all.1)
 
     -- a slice without a row has no share in what is kept
-    none-share : (s a : Shape) (c : ℕ) → c < known legs k (t +ℤ pos 1) s → fits legs t a ≡ true → lookup (same a) es ≡ None → share legs k t s a c ≡ 0
+    none-share : (s a : Shape) (c : ℕ) → c < known legs k (t +ℤ pos 1) s → fits legs t a ≡ true → lookup (same_shape a) es ≡ None → share legs k t s a c ≡ 0
     unfolding share
     none-share s a c l fa e = by_fit (fits legs (t +ℤ pos 1) s) refl
       where
@@ -237,28 +236,28 @@ module _ {A : Type 0} (r : Operations A) (legs : Legs) (k : ℕ) (t : ℤ) (are 
         by_fit true = only_if (nat_le x c) (λ a. interlaces t a s) (λ a. ways_at legs k t a (c - x)) (fitting legs t k) ∙ ways-next legs k t s c low
         by_fit false = sum_of-zero (λ (a : Shape). 0) (λ a. refl) (fitting legs t k)
 
-    pub shares-all : (s : Shape) (c : ℕ) → IsDistinct same (keys_of es) → neg_ℤ (pos (k + extent legs)) ≤ℤ t → c < known legs k (t +ℤ pos 1) s → shares legs k t es s c ≡ ways_to legs k (t +ℤ pos 1) s c
+    pub shares-all : (s : Shape) (c : ℕ) → IsDistinct same_shape (keys_of es) → neg_ℤ (pos (k + extent legs)) ≤ℤ t → c < known legs k (t +ℤ pos 1) s → shares legs k t es s c ≡ ways_to legs k (t +ℤ pos 1) s c
     unfolding shares
     shares-all s c distinct low l =
         let F : Shape → ℕ = λ a. share legs k t s a c in
         let sums = same-sum F (fitting legs t k) es once-listed distinct in
-        let none = sum_of-all (λ a. fits legs t a ≡ true) (λ a. cond (is_some (lookup (same a) es)) 0 (F a)) (λ a. 0) (λ a f. by_row a f (lookup (same a) es) refl) (fitting legs t k) (fitting-fits legs t k are) ∙ sum_of-zero (λ (a : Shape). 0) (λ a. refl) (fitting legs t k) in
+        let none = sum_of-all (λ a. fits legs t a ≡ true) (λ a. cond (is_some (lookup (same_shape a) es)) 0 (F a)) (λ a. 0) (λ a f. by_row a f (lookup (same_shape a) es) refl) (fitting legs t k) (fitting-fits legs t k are) ∙ sum_of-zero (λ (a : Shape). 0) (λ a. refl) (fitting legs t k) in
         rest _ _ _ sums none ∙ ways-shared s c low
       where
         rest : (w m n : ℕ) → w ≡ m + n → n ≡ 0 → m ≡ w
         rest w m n e f = omega arith
 
-        by_row : (a : Shape) → fits legs t a ≡ true → (o : Option (Row A)) → lookup (same a) es ≡ o → cond (is_some o) 0 (share legs k t s a c) ≡ 0
+        by_row : (a : Shape) → fits legs t a ≡ true → (o : Option (Row A)) → lookup (same_shape a) es ≡ o → cond (is_some o) 0 (share legs k t s a c) ≡ 0
         by_row a f None e = none-share s a c l f e
         by_row a f (Some row) e = refl
 
-    pub next-table : (rows : List (Shape × Row A)) (i : ℕ) → length es ≤ i → IsDistinct same (keys_of es) → neg_ℤ (pos (k + extent legs)) ≤ℤ t →
+    pub next-table : (rows : List (Shape × Row A)) (i : ℕ) → length es ≤ i → IsDistinct same_shape (keys_of es) → neg_ℤ (pos (k + extent legs)) ≤ℤ t →
         IsTable r legs k (t +ℤ pos 1) (shares legs k t (take i es)) rows → IsTable r legs k (t +ℤ pos 1) (ways_to legs k (t +ℤ pos 1)) rows
     next-table rows i far distinct low done =
         table-same r legs k (t +ℤ pos 1) (shares legs k t (take i es)) (ways_to legs k (t +ℤ pos 1)) rows (λ s c l. ap (λ cs. shares legs k t cs s c) (take-whole es i far) ∙ shares-all s c distinct low l) done
 
     -- what is too great on the way is so in a number of sets of extras
-    pub next-wide : (i : ℕ) (a : Shape) (row : Row A) → slice_get es i ≡ Some (a, row) → HasRow r (ways_at legs k t a) (known legs k t a) row → IsDistinct same (keys_of es) →
+    pub next-wide : (i : ℕ) (a : Shape) (row : Row A) → slice_get es i ≡ Some (a, row) → HasRow r (ways_at legs k t a) (known legs k t a) row → IsDistinct same_shape (keys_of es) →
         neg_ℤ (pos (k + extent legs)) ≤ℤ t → t <ℤ pos (k + extent legs) → IsTooMany r legs k (t +ℤ pos 1) (with_slice legs k t (k - row.least) a (shares legs k t (take i es))) →
         (n : ℕ) × (n ≤ k) × (limit < count legs n * r.size r.unit)
     unfolding shares

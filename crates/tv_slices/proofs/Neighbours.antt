@@ -9,9 +9,9 @@ use Rattle.tv_lemmas.proofs.Members.{all-found, all-filter, all-at}
 use Rattle.tv_ring.specs.Operations.{Operations, limit}
 use Rattle.tv_cells.specs.declared.legs.Legs.{Legs}
 use Rattle.tv_cells.specs.Extras.{bit, AreDiagrams}
-use Rattle.tv_spec_slices.specs.Slices.{Shape, fits, interlaces, extras_of, completion}
+use Rattle.tv_spec_slices.specs.Slices.{Shape, fits, interlaces, extras_of, completion, same_shape}
 use Rattle.tv_spec_slices.specs.Paths.{fitting, next_of, ways_at}
-use Rattle.tv_laws_slices.specs.Laws.{same_shape, often}
+use Rattle.tv_laws_slices.specs.Laws.{often}
 use Rattle.tv_laws_slices.proofs.Once.{once-all}
 use Rattle.tv_laws_slices.proofs.Steps.{completion-step}
 use Rattle.tv_laws_slices.proofs.Pushed.{own-shape, listed-often}

@@ -6,9 +6,9 @@ use Rattle.std.proofs.lemmas.Bool.{lt-ltb, le-leb, leb-true, ne_eqb, cases_Bool}
 use Rattle.std.proofs.lemmas.Bool.Decides.{nat_tests}
 use Rattle.tv_cells.specs.declared.legs.Legs.{Legs}
 use Rattle.tv_cells.specs.Extras.{bit, extent, AreDiagrams}
-use Rattle.tv_spec_slices.specs.Slices.{Shape, base_at, fits, extras_of}
+use Rattle.tv_spec_slices.specs.Slices.{Shape, base_at, fits, extras_of, same_shape}
 use Rattle.tv_spec_slices.specs.Paths.{full_of, columns, down, shape, fitting, fitting_by, fitting_from}
-use Rattle.tv_laws_slices.specs.Laws.{same_shape, often}
+use Rattle.tv_laws_slices.specs.Laws.{often}
 use Rattle.tv_laws_slices.proofs.Once.{once-all}
 use Rattle.tv_laws_slices.proofs.Bases.{base-next, base-past}
 use Rattle.tv_laws_slices.proofs.Pushed.{own-shape}

@@ -8,8 +8,7 @@ use Rattle.indexmap.specs.IndexMap.{insert_entry}
 use Rattle.tv_ring.specs.Operations.{Operations, RingLaws, SizeLaws, limit}
 use Rattle.tv_ring.specs.Sums.{at, times}
 use Rattle.tv_cells.specs.declared.legs.Legs.{Legs}
-use Rattle.tv_spec_slices.specs.Slices.{Shape, fits, extras_of}
-use Rattle.tv_interlace.specs.Same.{same}
+use Rattle.tv_spec_slices.specs.Slices.{Shape, fits, extras_of, same_shape}
 use Rattle.tv_laws_slices.proofs.Pushed.{same-shape, own-shape}
 use Rattle.tv_slices.specs.declared.row.Row.{Row}
 use Rattle.tv_slices.specs.Rows.{shifted, sums, numbers}
@@ -32,9 +31,9 @@ module _ {A : Type 0} (r : Operations A) (legs : Legs) (k : ℕ) (t : ℤ) where
 
   pub table-same : (f g : Shape → ℕ → ℕ) (rows : List (Shape × Row A)) → ((s : Shape) (c : ℕ) → c < known legs k t s → f s c ≡ g s c) → IsTable r legs k t f rows → IsTable r legs k t g rows
   unfolding RowAt
-  table-same f g rows each table = record { each = λ s. at-same f g s (lookup (same s) rows) (each s) (table.each s); suits = table.suits }
+  table-same f g rows each table = record { each = λ s. at-same f g s (lookup (same_shape s) rows) (each s) (table.each s); suits = table.suits }
 
-  others : (f : ℕ → ℕ) (b s : Shape) (g : Shape → ℕ → ℕ) (c : ℕ) → same b s ≡ false → g s c ≡ with_one legs t f b g s c
+  others : (f : ℕ → ℕ) (b s : Shape) (g : Shape → ℕ → ℕ) (c : ℕ) → same_shape b s ≡ false → g s c ≡ with_one legs t f b g s c
   unfolding with_one
   others f b s g c off = rw off (omega arith)
 
@@ -43,31 +42,31 @@ module _ {A : Type 0} (r : Operations A) (legs : Legs) (k : ℕ) (t : ℤ) where
   own f b g c = rw (own-shape b) refl
 
   all-put : (rows : List (Shape × Row A)) (b : Shape) (row : Row A) → fits legs t b ≡ true → extras_of legs t b ≤ k → AllByRecursion (λ e. (fits legs t e.0 ≡ true) × (extras_of legs t e.0 ≤ k)) rows →
-      AllByRecursion (λ e. (fits legs t e.0 ≡ true) × (extras_of legs t e.0 ≤ k)) (insert_entry same rows b row)
+      AllByRecursion (λ e. (fits legs t e.0 ≡ true) × (extras_of legs t e.0 ≤ k)) (insert_entry same_shape rows b row)
   all-put [] b row f l all = ((f, l), tt)
-  all-put (e ∷ rows) b row f l all = by_test (same b e.0) (all-put rows b row f l all.1)
+  all-put (e ∷ rows) b row f l all = by_test (same_shape b e.0) (all-put rows b row f l all.1)
     where
-      by_test : (q : Bool) → AllByRecursion (λ e. (fits legs t e.0 ≡ true) × (extras_of legs t e.0 ≤ k)) (insert_entry same rows b row) → AllByRecursion (λ e. (fits legs t e.0 ≡ true) × (extras_of legs t e.0 ≤ k)) (cond q ((e.0, row) ∷ rows) (e ∷ insert_entry same rows b row))
+      by_test : (q : Bool) → AllByRecursion (λ e. (fits legs t e.0 ≡ true) × (extras_of legs t e.0 ≤ k)) (insert_entry same_shape rows b row) → AllByRecursion (λ e. (fits legs t e.0 ≡ true) × (extras_of legs t e.0 ≤ k)) (cond q ((e.0, row) ∷ rows) (e ∷ insert_entry same_shape rows b row))
       by_test true rest = all
       by_test false rest = (all.0, rest)
 
   pub table-put : (rows new : List (Shape × Row A)) (b : Shape) (row : Row A) (f : ℕ → ℕ) (g : Shape → ℕ → ℕ) → fits legs t b ≡ true → extras_of legs t b ≤ k →
-      ((q : Shape) → lookup (same q) new ≡ cond (same b q) (Some row) (lookup (same q) rows)) → new ≡ insert_entry same rows b row → HasRow r (with_one legs t f b g b) (known legs k t b) row →
+      ((q : Shape) → lookup (same_shape q) new ≡ cond (same_shape b q) (Some row) (lookup (same_shape q) rows)) → new ≡ insert_entry same_shape rows b row → HasRow r (with_one legs t f b g b) (known legs k t b) row →
       IsTable r legs k t g rows → IsTable r legs k t (with_one legs t f b g) new
   unfolding RowAt
   table-put rows new b row f g fit few put is has table = record {
-    each = λ s. decided s (same b s) refl;
+    each = λ s. decided s (same_shape b s) refl;
     suits = subst (AllByRecursion (λ e. (fits legs t e.0 ≡ true) × (extras_of legs t e.0 ≤ k))) (sym is) (all-put rows b row fit few table.suits);
   }
     where
-      here : (s : Shape) (q : Bool) → same b s ≡ q → lookup (same s) new ≡ cond q (Some row) (lookup (same s) rows)
-      here s q e = put s ∙ ap (λ d. cond d (Some row) (lookup (same s) rows)) e
+      here : (s : Shape) (q : Bool) → same_shape b s ≡ q → lookup (same_shape s) new ≡ cond q (Some row) (lookup (same_shape s) rows)
+      here s q e = put s ∙ ap (λ d. cond d (Some row) (lookup (same_shape s) rows)) e
 
-      decided : (s : Shape) (q : Bool) → same b s ≡ q → RowAt (with_one legs t f b g) s (lookup (same s) new)
+      decided : (s : Shape) (q : Bool) → same_shape b s ≡ q → RowAt (with_one legs t f b g) s (lookup (same_shape s) new)
       decided s true e =
           let one : b ≡ s = same-shape b s e in
           subst (RowAt (with_one legs t f b g) s) (sym (here s true e)) (subst (λ a. HasRow r (with_one legs t f b g a) (known legs k t a) row) one has)
-      decided s false e = subst (RowAt (with_one legs t f b g) s) (sym (here s false e)) (at-same g (with_one legs t f b g) s (lookup (same s) rows) (λ c l. others f b s g c e) (table.each s))
+      decided s false e = subst (RowAt (with_one legs t f b g) s) (sym (here s false e)) (at-same g (with_one legs t f b g) s (lookup (same_shape s) rows) (λ c l. others f b s g c e) (table.each s))
 
   -- nothing is pushed with a cost below the least one
   pub nothing : (b : Shape) (row : Row A) (f : ℕ → ℕ) (n : ℕ) → Pushes r legs k t f n row b → (c : ℕ) → c < known legs k t b → c < row.least + extras_of legs t b → cond (nat_le (extras_of legs t b) c) (f (c - extras_of legs t b)) 0 ≡ 0
@@ -85,12 +84,12 @@ module _ {A : Type 0} (r : Operations A) (legs : Legs) (k : ℕ) (t : ℤ) where
   -- where the costs are too great nothing changes
   pub table-stays : (rows : List (Shape × Row A)) (b : Shape) (row : Row A) (f : ℕ → ℕ) (n : ℕ) (g : Shape → ℕ → ℕ) → Pushes r legs k t f n row b → known legs k t b ≤ row.least + extras_of legs t b →
       IsTable r legs k t g rows → IsTable r legs k t (with_one legs t f b g) rows
-  table-stays rows b row f n g p far table = table-same g (with_one legs t f b g) rows (λ s c l. decided s c l (same b s) refl) table
+  table-stays rows b row f n g p far table = table-same g (with_one legs t f b g) rows (λ s c l. decided s c l (same_shape b s) refl) table
     where
       further : (c m n : ℕ) → c < m → m ≤ n → c < n
       further c m n l h = omega arith
 
-      decided : (s : Shape) (c : ℕ) → c < known legs k t s → (q : Bool) → same b s ≡ q → g s c ≡ with_one legs t f b g s c
+      decided : (s : Shape) (c : ℕ) → c < known legs k t s → (q : Bool) → same_shape b s ≡ q → g s c ≡ with_one legs t f b g s c
       decided s c l true e =
           let one : b ≡ s = same-shape b s e in
           let at_b : c < known legs k t b → g b c ≡ with_one legs t f b g b c = λ m. sym (own f b g c ∙ (ap (λ v. g b c + v) (nothing b row f n p c m (further c (known legs k t b) (row.least + extras_of legs t b) m far)) ∙ omega arith)) in

@@ -12,9 +12,8 @@ use Rattle.std.specs.Map.{lookup}
 use Rattle.tv_lemmas.specs.Sums.{sum_of}
 use Rattle.tv_ring.specs.Operations.{Operations, limit}
 use Rattle.tv_cells.specs.declared.legs.Legs.{Legs}
-use Rattle.tv_spec_slices.specs.Slices.{Shape, fits, extras_of, completion}
+use Rattle.tv_spec_slices.specs.Slices.{Shape, fits, extras_of, completion, same_shape}
 use Rattle.tv_spec_slices.specs.Paths.{ways_at, next_of}
-use Rattle.tv_interlace.specs.Same.{same}
 use Rattle.tv_slices.specs.declared.row.Row.{Row}
 use Rattle.tv_slices.specs.Rows.{numbers}
 
@@ -29,11 +28,11 @@ pub record HasRow {A : Type 0} (r : Operations A) (f : ℕ → ℕ) (n : ℕ) (r
   pub least : (c : ℕ) → c < n → c < row.least → f c ≡ 0
 
 pub record IsTable {A : Type 0} (r : Operations A) (legs : Legs) (k : ℕ) (t : ℤ) (f : Shape → ℕ → ℕ) (rows : List (Shape × Row A)) : Type 0 where
-  pub each : (s : Shape) → MatchOption (lookup (same s) rows) ((c : ℕ) → c < known legs k t s → f s c ≡ 0) (HasRow r (f s) (known legs k t s))
+  pub each : (s : Shape) → MatchOption (lookup (same_shape s) rows) ((c : ℕ) → c < known legs k t s → f s c ≡ 0) (HasRow r (f s) (known legs k t s))
   pub suits : AllByRecursion (λ e. (fits legs t e.0 ≡ true) × (extras_of legs t e.0 ≤ k)) rows
 
 abbrev pub given : (ℕ → ℕ) → Shape → ℕ → Shape → ℕ → ℕ
-given f b x s c = cond (same b s && nat_le x c) (f (c - x)) 0
+given f b x s c = cond (same_shape b s && nat_le x c) (f (c - x)) 0
 
 -- Pushes r legs k t f n row b == what the row of f tells is pushed to b at t, which fits and has at most k extras
 -- with_one legs t f b g  == g, with what comes from f to b

@@ -15,11 +15,11 @@ use Rattle.tv_cells.proofs.Sublists.{sublists_of-length}
 use Rattle.tv_spec_boxes.proofs.Vectors.{same_vector_tells}
 use Rattle.tv_spec_boxes.specs.Configurations.{Configuration, extras_of, fillings, fillings_of, boxes_left, boxes_of, chi_of, configurations, configurations_on}
 
-numbers_at_most : (k n top : ℕ) → k + n ≤ top + 1 → AllByRecursion (λ i. i ≤ top) (range_with_len k n)
+pub numbers_at_most : (k n top : ℕ) → k + n ≤ top + 1 → AllByRecursion (λ i. i ≤ top) (range_with_len k n)
 numbers_at_most k zero top h = tt
 numbers_at_most k (suc n) top h = (omega arith, numbers_at_most (k + 1) n top (omega arith))
 
-extras_long : (legs : Legs) (side i : ℕ) → AllByRecursion (λ s. length s ≡ i) (extras_of legs side i)
+pub extras_long : (legs : Legs) (side i : ℕ) → AllByRecursion (λ s. length s ≡ i) (extras_of legs side i)
 extras_long legs side i = all-filter (λ (s : List Cell). length s ≡ i) (λ (s : List Cell). length s ≡ i) (is_extras legs) (λ s e h. e) (sublists_of i (cube (side + extent legs))) (sublists_of-length i (cube (side + extent legs)))
 
 no_boxes : (n : ℕ) (b : Bool) → nat_eq n 0 ≡ b → AllByRecursion (λ cells. boxes_of cells ≡ n) (cond b ([] ∷ []) [])

@@ -12,7 +12,7 @@ use Rattle.std.specs.Ordering.{int_eq}
 use Rattle.tv_spec_plane.specs.declared.records.CompactEdge.{CompactEdge}
 use Rattle.tv_spec_plane.specs.Web.{Web, compact, class_entry, edge_class}
 use Rattle.tv_partition.specs.Rows.{size}
-use Rattle.tv_spec_boxes.specs.Assignments.{Rows, Assignment, zeros, plus, times, sum_on, class_by, class_on, class_of, same_vector}
+use Rattle.tv_spec_boxes.specs.Assignments.{Rows, Assignment, zeros, plus, times, sum_on, class_by, class_on, class_of, same_vector, class_difference}
 
 pub same_vector-same : (v : List ℤ) → same_vector v v ≡ true
 same_vector-same [] = refl
@@ -75,3 +75,8 @@ at-class_on w [] a k = at-zeros (length w.points) k
 at-class_on w (e ∷ es) [] k = at-zeros (length w.points) k
 at-class_on w (e ∷ es) (d ∷ a) k =
     at-plus (class_by w e d) (class_on w es a) k ∙ (ap (λ z. z +ℤ slice_index_or (class_on w es a) k (pos 0)) (at-times (size d) (edge_class w e) k) ∙ ap (λ z. part_by w k e d +ℤ z) (at-class_on w es a k))
+
+pub length-difference : (u v : List ℤ) → length (class_difference u v) ≡ length u
+length-difference [] v = refl
+length-difference (x ∷ u) [] = refl
+length-difference (x ∷ u) (y ∷ v) = ap suc (length-difference u v)

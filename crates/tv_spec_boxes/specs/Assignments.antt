@@ -9,6 +9,7 @@
 -- all_legs w a fixed == the legs of each corner, in the order of corners
 -- zeros n            == n zeros
 -- times n v          == the whole multiple of a vector
+-- class_difference u v == u - v entry by entry, of vectors of equal length
 -- over_edges add none f es a == the sum of f over the edges with their diagrams, by that addition and its zero
 -- sum_on f es a      == so of whole numbers
 -- class_by w e d     == the class of an edge with its diagram: size times class
@@ -23,7 +24,7 @@
 -- same_rows, same_choice == two diagrams, or two lists of diagrams, are equal
 -- same_vector u v    == the two vectors are equal
 -- assignments_of w v == the assignments of class v
-use Rattle.std.specs.Prelude.{ℕ, zero, suc, ◌-◌, ◌*◌, ℤ, pos, ◌+ℤ◌, ◌*ℤ◌, List, [], ◌∷◌, map, filter, length, slice_index_or, Bool, nat_eq, nat_le}
+use Rattle.std.specs.Prelude.{ℕ, zero, suc, ◌-◌, ◌*◌, ℤ, pos, ◌+ℤ◌, ◌-ℤ◌, ◌*ℤ◌, List, [], ◌∷◌, map, filter, length, slice_index_or, Bool, nat_eq, nat_le}
 use Rattle.std.specs.Ordering.{int_eq}
 use Rattle.std.specs.Cmp.Lexicographic.{pointwise}
 use Rattle.std.specs.List.{flat_map}
@@ -69,6 +70,11 @@ zeros (suc n) = pos 0 ∷ zeros n
 
 abbrev pub times : ℕ → List ℤ → List ℤ
 times n v = map (λ x. pos n *ℤ x) v
+
+abbrev pub class_difference : List ℤ → List ℤ → List ℤ
+class_difference [] v = []
+class_difference (x ∷ u) [] = x ∷ u
+class_difference (x ∷ u) (y ∷ v) = (x -ℤ y) ∷ class_difference u v
 
 -- one fold for sums of numbers and of vectors, each with its own addition and zero
 abbrev pub over_edges : {B : Type 0} → (B → B → B) → B → (CompactEdge → Rows → B)

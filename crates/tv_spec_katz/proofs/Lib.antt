@@ -1,5 +1,5 @@
 pub mod Samples
-mod Values
+pub mod Values
 mod StepValues
 mod IntegerValues
 mod MadeUp

@@ -40,7 +40,7 @@ unfolding katz product times unit difference_by power_at binomial choose sum_bel
 conifold_second = refl
 
 -- the 1 is read off the series of both classes
-conifold_integers_are : integers 2 conifold_series ≡ conifold_integer
+pub conifold_integers_are : integers 2 conifold_series ≡ conifold_integer
 unfolding integers candidates comes_before find coefficient at above katz product times unit difference_by power_at binomial choose sum_below
 conifold_integers_are = refl
 
@@ -50,7 +50,7 @@ unfolding katz product times unit difference_by power_at binomial choose sum_bel
 plane_second = refl
 
 -- they are read off their series
-plane_integers_are : integers 2 plane_series ≡ plane_integers
+pub plane_integers_are : integers 2 plane_series ≡ plane_integers
 unfolding integers candidates comes_before find coefficient at above katz product times unit difference_by power_at binomial choose sum_below
 plane_integers_are = refl
 

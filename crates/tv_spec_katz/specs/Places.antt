@@ -2,7 +2,6 @@
 --
 -- Place              == degree, class and exponent; the degree is carried along, so that what is left of it computes
 -- place hs v n       == the place of the class v at the exponent n; the heights give its degree
--- class_difference u v == u - v entry by entry, of vectors of equal length
 -- difference p x     == p - x: what is left of the place p when the place x is taken off
 -- difference_by k p x == p - k x: the same, taken off k times
 -- is_zero_class v    == all entries are 0
@@ -10,6 +9,7 @@
 use Rattle.std.specs.Prelude.{ℕ, zero, suc, ℤ, pos, ◌-ℤ◌, List, [], ◌∷◌, Bool, true, ◌&&◌, if◌then◌else◌}
 use Rattle.std.specs.Ordering.{int_eq}
 use Rattle.tv_spec_plane.specs.Web.{degree_of}
+pub use Rattle.tv_spec_boxes.specs.Assignments.{class_difference}
 
 pub record Place : Type 0 where
   pub degree : ℤ
@@ -18,11 +18,6 @@ pub record Place : Type 0 where
 
 abbrev pub place : List ℤ → List ℤ → ℤ → Place
 place hs v n = record { degree = degree_of hs v; class = v; exponent = n }
-
-abbrev pub class_difference : List ℤ → List ℤ → List ℤ
-class_difference [] v = []
-class_difference (x ∷ u) [] = x ∷ u
-class_difference (x ∷ u) (y ∷ v) = (x -ℤ y) ∷ class_difference u v
 
 abbrev pub difference : Place → Place → Place
 difference p x = record {

@@ -1,6 +1,7 @@
 -- The slices of a corner: slice t holds the cells with x - y = t, a column of cells at each place of that diagonal.
 --
 -- Shape             == the number of places at its front whose column has no end, and the heights of the further columns
+-- same_shape a b     == the two slices are one
 -- at s d            == the height at place d, 0 past the last one; it says nothing at a place without end
 -- reach s           == the number of places up to the last column
 -- covers a d b e    == the column of a at d is at least as high as that of b at e; one without end is higher than every
@@ -18,7 +19,8 @@
 -- extras_of legs t s == the number of extras of the slice
 -- completion legs t s == the number of extras on the diagonals above t, where at (x, y) stands the greater of the height of
 --                      the legs and the height of the slice at (x, x - t): the least that completes it
-use Rattle.std.specs.Prelude.{ℕ, zero, suc, ◌+◌, ◌-◌, ℤ, pos, negsuc, max, List, length, slice_index, Bool, true, not, cond, ◌&&◌, ◌||◌, nat_lt, nat_le}
+use Rattle.std.specs.Prelude.{ℕ, zero, suc, ◌+◌, ◌-◌, ℤ, pos, negsuc, max, List, length, slice_index, Bool, true, not, cond, ◌&&◌, ◌||◌, nat_eq, nat_lt, nat_le}
+use Rattle.std.specs.Cmp.Lexicographic.{pointwise}
 use Rattle.tv_lemmas.specs.Sums.{sum_of}
 use Rattle.tv_partition.specs.Rows.{has}
 use Rattle.tv_cells.specs.declared.legs.Legs.{Legs}
@@ -29,6 +31,9 @@ use Rattle.tv_spec_slices.specs.Falling.{falls}
 pub record Shape : Type 0 where
   pub full : ℕ
   pub heights : List ℕ
+
+abbrev pub same_shape : Shape → Shape → Bool
+same_shape a b = nat_eq a.full b.full && pointwise nat_eq a.heights b.heights
 
 abbrev pub at : Shape → ℕ → ℕ
 at s d = slice_index s.heights (d - s.full)

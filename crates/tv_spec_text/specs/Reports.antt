@@ -5,11 +5,13 @@
 -- Rises ts        == exponents rise
 -- IsTerm f upto t == the exponent is at most upto, and the coefficient is the value of f there, and not 0
 -- AreTerms f upto ts == the exponents through upto at which f isn't 0, rising, each with the value of f
+-- IsPrintable z   == at most 2^127 - 1 in absolute value: a text spells such a number whole
+-- IsSmallTerm t   == its coefficient is so; IsSmall s, each coefficient of the section is
 -- term_line t, class_line s == the line of a term, of a class
 -- section_lines s == a line for the class and a line for each term
 -- series_lines title heights degree upto ss == the lines of the report whose first line is `report series TITLE`
 -- series_text     == the text of those lines
-use Rattle.std.specs.Prelude.{◌≡◌, ◌≢◌, ℕ, ℤ, pos, ◌≤ℤ◌, ◌<ℤ◌, List, [], ◌∷◌, ◌++◌, map, codes, ⊤}
+use Rattle.std.specs.Prelude.{◌≡◌, ◌≢◌, ℕ, ◌-◌, ◌^◌, ◌≤◌, ℤ, pos, unsigned_abs, ◌≤ℤ◌, ◌<ℤ◌, List, [], ◌∷◌, ◌++◌, map, codes, ⊤}
 use Rattle.std.specs.List.{flat_map, AllByRecursion, Contains}
 use Rattle.tv_spec_text.specs.Lines.{Word, Line, text_of, spelled}
 
@@ -36,6 +38,15 @@ pub record AreTerms (f : ℤ → ℤ) (upto : ℤ) (ts : List Term) : Type 0 whe
   pub rises : Rises ts
   pub each : AllByRecursion (IsTerm f upto) ts
   pub whole : (n : ℤ) → n ≤ℤ upto → f n ≢ pos 0 → Contains (map (λ (t : Term). t.exponent) ts) n
+
+abbrev pub IsPrintable : ℤ → Type 0
+IsPrintable z = unsigned_abs z ≤ 2 ^ 127 - 1
+
+abbrev pub IsSmallTerm : Term → Type 0
+IsSmallTerm t = IsPrintable t.coefficient
+
+abbrev pub IsSmall : Section → Type 0
+IsSmall s = AllByRecursion IsSmallTerm s.terms
 
 abbrev pub term_line : Term → Line
 term_line t = codes "term" ∷ spelled t.exponent ∷ spelled t.coefficient ∷ []

@@ -7,11 +7,11 @@ use Rattle.tv_ring.proofs.Times.{whole_times-wholes}
 use Rattle.tv_spec_plane.specs.Web.{Web, degree_of}
 use Rattle.tv_spec_boxes.specs.Assignments.{no_legs}
 use Rattle.tv_spec_boxes.specs.Classes.{AreClasses}
-use Rattle.tv_spec_text.specs.Reports.{AreTerms, series_text}
+use Rattle.tv_spec_text.specs.Reports.{AreTerms, series_text, IsSmall}
 use Rattle.tv_spec_series.specs.Families.{Row, Family, coefficient}
 use Rattle.tv_spec_series.specs.ReducedFamilies.{IsReducedFamily, IsReducedRow}
 use Rattle.tv_text.specs.declared.series.Kind.TheVariants.{Reduced}
-use Rattle.tv_reports.specs.Sections.{IsSmall, section_of, sections_of, TellsRow}
+use Rattle.tv_reports.specs.Sections.{section_of, sections_of, TellsRow}
 use Rattle.tv_reports.proofs.Sections.{sections_tell}
 use Rattle.tv_top.specs.SeriesReport.{IsReducedSection, IsSeriesReport}
 use Rattle.tv_top.specs.Replies.{IsPrinted, Prints, CarriesOut, IsCarriedOut}

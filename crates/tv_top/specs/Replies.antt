@@ -18,13 +18,13 @@ use Rattle.std.specs.List.{AllByRecursion}
 use Rattle.tv_ring.specs.Whole.{wholes, IsAny}
 use Rattle.tv_spec_plane.specs.Web.{Web}
 use Rattle.tv_spec_text.specs.Lines.{Word, Line, line_text}
-use Rattle.tv_spec_text.specs.Reports.{series_text}
+use Rattle.tv_spec_text.specs.Reports.{series_text, IsSmall}
 use Rattle.tv_spec_series.specs.Families.{Family, IsFamily}
 use Rattle.tv_text.specs.declared.series.Kind.{Kind}
 use Rattle.tv_text.specs.Sections.{kind_word}
 use Rattle.tv_integers.specs.Kept.{Kept}
 use Rattle.tv_gv.specs.Extracted.{HasIntegers}
-use Rattle.tv_reports.specs.Sections.{IsSmall, sections_of}
+use Rattle.tv_reports.specs.Sections.{sections_of}
 use Rattle.tv_reports.specs.IntegerSections.{gv_sections}
 use Rattle.tv_spec_reports.specs.IntegerLines.{gv_text}
 use Rattle.tv_lattice.specs.declared.fault.FileFault.{FileFault}

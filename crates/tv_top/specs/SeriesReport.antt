@@ -21,11 +21,10 @@ use Rattle.tv_spec_boxes.specs.Classes.{IsClass, AreClasses}
 use Rattle.tv_spec_boxes.specs.Numbers.{crowd}
 use Rattle.tv_spec_series.specs.Reduced.{full_coefficient, IsReduced, IsSpread}
 use Rattle.tv_spec_text.specs.Lines.{Word}
-use Rattle.tv_spec_text.specs.Reports.{Section, AreTerms, series_text}
+use Rattle.tv_spec_text.specs.Reports.{Section, AreTerms, series_text, IsSmall}
 use Rattle.tv_text.specs.declared.series.Kind.{Kind}
 use Rattle.tv_text.specs.declared.series.Kind.TheVariants.{Full, Reduced}
 use Rattle.tv_text.specs.Sections.{kind_word}
-use Rattle.tv_reports.specs.Sections.{IsSmall}
 
 pub record IsFullSection (w : Web) (upto : ℤ) (s : Section) : Type 0 where
   pub degree : s.degree ≡ degree_of w.heights s.entries

@@ -18,7 +18,8 @@ abbrev pub PassingTrianglesTile : Type 0
 PassingTrianglesTile = (ps : List Point) (ts : List Triple) (m : Mesh) → AllByRecursion HasCoordinates ps → PassesChecks ps ts m → IsTiled ps ts
 
 abbrev pub TilingTrianglesPass : Type 0
-TilingTrianglesPass = (ps : List Point) (ts : List Triple) (f : FileFault) → AllByRecursion HasCoordinates ps → IsTiled ps ts → IsFirstFault ps ts f → ⊥
+TilingTrianglesPass = (ps : List Point) (ts : List Triple) (f : FileFault) → AllByRecursion HasCoordinates ps → IsTiled ps ts
+    → IsFirstFault ps ts f → ⊥
 
 abbrev pub OneTriangleIsACorner : Type 0
 OneTriangleIsACorner = (ps : List Point) (t : Triple) (m : Mesh) → PassesChecks ps (t ∷ []) m → (length ps ≡ 3) × NamesAll t

@@ -1,12 +1,12 @@
 use Rattle.std.proofs.Common.{◌≡◌, ℤ, pos, ◌-ℤ◌, [], ◌∷◌, SFits, w32, to_z, of_z, refl, sym, ◌∙◌, ap, arith}
 use Rattle.std.proofs.lemmas.Int.{ints, to_z-of_z}
 use Rattle.indexmap.specs.IndexMap.{insert_entry}
-use Rattle.tv_interlace.specs.Same.{same}
 use Rattle.tv_slices.specs.Rows.{numbers}
 use Rattle.tv_slices.specs.Bare.{bare, at_start}
 use Rattle.tv_slices.specs.Tables.{known}
 use Rattle.tv_slices.proofs.Ends.{first-table}
 use Rattle.tv_slices.proofs.counts.first_table.Goals as goal
+use Rattle.tv_spec_slices.specs.Slices.{same_shape}
 
 pub returns-clause-value : goal.returns-clause-value
 returns-clause-value g c =
@@ -17,4 +17,4 @@ returns-clause-value g c =
     let b : c.in_ok-bare.bare ≡ bare legs t = c.in_ok-bare.ensures ∙ ap (bare legs) one in
     let counts = c.in_ok-counts.ensures.value ∙ ap (numbers r at_start) (c.known-2.ensures.value ∙ (ap (λ u. known legs k u c.in_ok-bare.bare) two ∙ ap (known legs k t) b)) in
     first-table r legs k t (record { least = 0; counts = c.in_ok-counts.counts }) c.insert.new.self.entries c.known.ensures.diagrams (omega (arith, ints, c.requires.far)) counts refl
-    (c.in_ok-insert.ensures.entries ∙ (ap (λ es. insert_entry same es c.in_ok-bare.bare (record { least = 0; counts = c.in_ok-counts.counts })) c.new-table.ensures.empty ∙ ap (λ x. (x, record { least = 0; counts = c.in_ok-counts.counts }) ∷ []) b))
+    (c.in_ok-insert.ensures.entries ∙ (ap (λ es. insert_entry same_shape es c.in_ok-bare.bare (record { least = 0; counts = c.in_ok-counts.counts })) c.new-table.ensures.empty ∙ ap (λ x. (x, record { least = 0; counts = c.in_ok-counts.counts }) ∷ []) b))

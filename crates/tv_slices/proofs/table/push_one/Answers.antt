@@ -5,8 +5,7 @@ use Rattle.std.proofs.lemmas.Result.{err_from_is_err_and}
 use Rattle.tv_ring.specs.Operations.{limit}
 use Rattle.tv_ring.specs.Sums.{at}
 use Rattle.tv_ring.specs.declared.fault.RingFault.TheVariants.{Wide}
-use Rattle.tv_spec_slices.specs.Slices.{Shape, fits, extras_of}
-use Rattle.tv_interlace.specs.Same.{same}
+use Rattle.tv_spec_slices.specs.Slices.{Shape, fits, extras_of, same_shape}
 use Rattle.tv_slices.specs.declared.row.Row.{Row}
 use Rattle.tv_slices.specs.Rows.{shifted}
 use Rattle.tv_slices.specs.Tables.{known, HasRow, IsTable, with_one}
@@ -32,7 +31,7 @@ returns-in_err-sums-clause-wide g c =
     let kept : c.known-len.result ≡ known c.args.legs.now c.args.k c.args.t c.args.b.now = simp to_z-of_z at c.known-len.ensures.value in
     let r = g.C.Ring.ring in
     let W : Option (Row g.row.C.Denot) → ℕ → ℕ → Type 0 = λ o x len. (e : ℕ) × (e < len) × (limit < r.size (at r (counts_of o) e) + r.size (shifted r c.args.row.now.counts.items x e)) in
-    let o = lookup (same c.args.b.now) c.args.next.now.entries in
+    let o = lookup (same_shape c.args.b.now) c.args.next.now.entries in
     let p = err_from_is_err_and c.from_residual.result c.from_residual.ensures.1 in
     rw (p.1, p.2) (λ e f n h q table.
     let far = subst (λ len. W o (extras_of c.args.legs.now c.args.t c.args.b.now) len) kept (subst (λ x. W o x c.known-len.result) extras (subst (λ u. W u c.extras_of-extras.result c.known-len.result) c.get.ensures.value (c.in_err-sums.ensures.wide (let w : c.in_err-sums.field-0.0 ≡ Wide = cc e in ap Err w)))) in
@@ -47,7 +46,7 @@ returns-clause-table g c =
     let b = c.args.b.now in
     let row = c.in_ok-sums.sums in
     let copied : c.in_ok-clone.field-0 ≡ b = search rules in
-    let o = lookup (same b) c.args.next.now.entries in
+    let o = lookup (same_shape b) c.args.next.now.entries in
     let J : Option (Row g.row.C.Denot) → ℕ → ℕ → Type 0 = λ o x len. IsJoined r o c.args.row.now x len row in
     let joined = subst (λ len. J o (extras_of c.args.legs.now c.args.t b) len) kept (subst (λ x. J o x c.known-len.result) extras (subst (λ u. J u c.extras_of-extras.result c.known-len.result) c.get.ensures.value c.in_ok-sums.ensures.value)) in
     λ f n h p table.
