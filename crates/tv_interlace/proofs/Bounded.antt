@@ -9,7 +9,8 @@ use Rattle.tv_spec_slices.specs.Paths.{shape}
 use Rattle.tv_interlace.specs.declared.bounds.TheConstants.{WITHOUT_END}
 use Rattle.tv_interlace.specs.Bounds.{floor, ceiling}
 use Rattle.tv_interlace.specs.Columns.{behind}
-use Rattle.tv_interlace.proofs.Tested.{all-at, and-left, and-right}
+use Rattle.tv_interlace.proofs.Tested.{all-at}
+use Rattle.tv_lemmas.proofs.Tests.{and-left, and-right}
 
 most : (d f g e x y w : ℕ) → (nat_lt d f || (nat_le g e && nat_le x y)) ≡ true → x ≤ w → x ≤ cond (nat_lt d f) w y
 most d f g e x y w h l = grind (arith, nat_tests)

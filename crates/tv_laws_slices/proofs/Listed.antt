@@ -8,12 +8,12 @@ use Rattle.std.specs.Cmp.Lexicographic.{pointwise}
 use Rattle.std.proofs.Common.{refl, sym, ap, ◌∙◌, arith, add-zero}
 use Rattle.std.proofs.lemmas.Bool.Decides.{nat_tests}
 use Rattle.tv_lemmas.specs.Sums.{sum_of}
-use Rattle.tv_lemmas.proofs.Sums.{sum_of-append, sum_of-flat_map}
+use Rattle.tv_lemmas.proofs.Sums.{sum_of-append, sum_of-flat_map, sum_of-map}
 use Rattle.tv_cells.specs.declared.legs.Legs.{Legs}
 use Rattle.tv_cells.specs.Extras.{bit}
 use Rattle.tv_spec_slices.specs.Slices.{base_at}
 use Rattle.tv_spec_slices.specs.Paths.{down, columns}
-use Rattle.tv_laws_slices.proofs.Sums.{sum_of-map, sum_of-same, sum_of-zero, sum_of-filter, sum_of-down}
+use Rattle.tv_laws_slices.proofs.Sums.{sum_of-same, sum_of-zero, sum_of-filter, sum_of-down}
 
 abbrev pub high : (ℕ → ℕ) → ℕ → ℕ → List ℕ → Bool
 high b d top [] = nat_eq (b d) 0

@@ -6,14 +6,14 @@ use Rattle.std.proofs.Common.{refl, sym, ap, ◌∙◌, arith, inl, inr}
 use Rattle.std.proofs.lemmas.Bool.{cases_eq, cond-true, cond-false, eq-eqb, ne_eqb, and_left, false_from_ne_true}
 use Rattle.std.proofs.lemmas.Bool.Decides.{nat_tests}
 use Rattle.tv_lemmas.specs.Sums.{sum_of}
-use Rattle.tv_lemmas.proofs.Sums.{sum_of-flat_map}
+use Rattle.tv_lemmas.proofs.Sums.{sum_of-flat_map, sum_of-map}
 use Rattle.tv_cells.specs.declared.legs.Legs.{Legs}
 use Rattle.tv_cells.specs.Cells.{below}
 use Rattle.tv_cells.specs.Extras.{bit, extent, AreDiagrams}
 use Rattle.tv_spec_slices.specs.Slices.{Shape, base_at, fits, extras_of, same_shape}
 use Rattle.tv_spec_slices.specs.Paths.{columns, full_of, shape, fitting_by, fitting}
 use Rattle.tv_laws_slices.specs.Laws.{often, SlicesOnce}
-use Rattle.tv_laws_slices.proofs.Sums.{sum_of-map, sum_of-same, sum_of-zero}
+use Rattle.tv_laws_slices.proofs.Sums.{sum_of-same, sum_of-zero}
 use Rattle.tv_laws_slices.proofs.Listed.{listed, listed-once}
 use Rattle.tv_laws_slices.proofs.Bases.{base-past}
 use Rattle.tv_laws_slices.proofs.Fits.{fits-full, fits-asked}

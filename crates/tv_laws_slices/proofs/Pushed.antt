@@ -15,7 +15,7 @@ use Rattle.std.proofs.lemmas.Int.{ints}
 use Rattle.std.proofs.lemmas.Bool.{cases_eq, cases_lt, cond-false, eqb-true, eq-eqb, ne_eqb, and_parts, and_from, lt-leb}
 use Rattle.std.proofs.lemmas.Bool.Decides.{nat_tests}
 use Rattle.tv_lemmas.specs.Sums.{sum_of}
-use Rattle.tv_lemmas.proofs.Sums.{sum_of-flat_map}
+use Rattle.tv_lemmas.proofs.Sums.{sum_of-flat_map, sum_of-map}
 use Rattle.tv_lemmas.proofs.Members.{all-found}
 use Rattle.tv_lemmas.proofs.Distinct.{pointwise-tells}
 use Rattle.tv_cells.specs.declared.legs.Legs.{Legs}
@@ -24,7 +24,7 @@ use Rattle.tv_cells.specs.Extras.{bit, extent, AreDiagrams}
 use Rattle.tv_spec_slices.specs.Slices.{Shape, interlaces, fits, extras_of, completion, same_shape}
 use Rattle.tv_spec_slices.specs.Paths.{shape, fitting, diagonal_at, ways, next_of, start_for, ways_at, is_entry}
 use Rattle.tv_laws_slices.specs.Laws.{often, EntriesPush}
-use Rattle.tv_laws_slices.proofs.Sums.{sum_of-map, sum_of-same, sum_of-zero, sum_of-filter}
+use Rattle.tv_laws_slices.proofs.Sums.{sum_of-same, sum_of-zero, sum_of-filter}
 use Rattle.tv_laws_slices.proofs.Once.{once-all}
 use Rattle.tv_laws_slices.proofs.Steps.{completion-step}
 use Rattle.tv_laws_slices.proofs.Listed.{exchange}

@@ -3,9 +3,9 @@ use Rattle.std.specs.Prelude.{IfOk, slice_get, []}
 use Rattle.std.specs.Option.{option_copied}
 use Rattle.tv_partition.specs.Rows.{diagrams}
 use Rattle.tv_spec_boxes.specs.Assignments.{Rows}
-use Rattle.tv_class_assignments.proofs.Tabled.{size_read}
 use Rattle.tv_class_assignments.proofs.Readings.{ok_part, read_rows}
 use Rattle.tv_class_assignments.proofs.moves.chosen.Goals as goal
+use Rattle.tv_assignment.proofs.Written.{size_read}
 
 pub returns-in-Some : goal.returns-in-Some
 returns-in-Some c =

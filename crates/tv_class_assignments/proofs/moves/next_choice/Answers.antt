@@ -11,8 +11,9 @@ use Rattle.tv_class_assignments.specs.Tables.{IsStuck}
 use Rattle.tv_class_assignments.specs.Walk.{with_left, with_diagrams, beside_on}
 use Rattle.tv_class_assignments.proofs.Edges.{from-many, with_diagrams-past, with_diagrams-none}
 use Rattle.tv_class_assignments.proofs.Less.{length-beside}
-use Rattle.tv_class_assignments.proofs.Tabled.{size_read, stuck-none}
+use Rattle.tv_class_assignments.proofs.Tabled.{stuck-none}
 use Rattle.tv_class_assignments.proofs.moves.next_choice.Goals as goal
+use Rattle.tv_assignment.proofs.Written.{size_read}
 
 pub returns-then-not-fits : goal.returns-then-not-fits
 returns-then-not-fits c =
