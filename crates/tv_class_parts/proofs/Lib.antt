@@ -6,3 +6,5 @@ pub mod ReadEntries
 pub mod Progress
 pub mod NumbersRead
 pub mod Ways
+pub mod ZeroLine
+pub mod TestWay

@@ -4,7 +4,7 @@
 -- powers-apart      integers of other classes have none
 -- powers-own        those of one integer of the class
 -- powers-onto, powers-onto_other  those of all integers that were read off a class, there and at another class
-use Rattle.std.specs.Prelude.{◌≡◌, ℕ, ◌+◌, ◌≤◌, ℤ, pos, neg_ℤ, ◌+ℤ◌, ◌-ℤ◌, ◌*ℤ◌, List, [], ◌∷◌, ◌++◌, length, true}
+use Rattle.std.specs.Prelude.{◌≡◌, ℕ, ◌+◌, ◌≤◌, ℤ, pos, neg_ℤ, ◌+ℤ◌, ◌-ℤ◌, ◌*ℤ◌, List, [], ◌∷◌, ◌++◌, length}
 use Rattle.std.specs.List.{AllByRecursion}
 use Rattle.std.specs.Ordering.{int_eq}
 use Rattle.std.proofs.Common.{refl, sym, ap, arith, ◌∙◌, inl, inr}
@@ -17,7 +17,7 @@ use Rattle.tv_lemmas.proofs.Members.{all-onto}
 use Rattle.tv_lemmas.proofs.Multiplied.{mul-one}
 use Rattle.tv_spec_boxes.specs.Assignments.{same_vector}
 use Rattle.tv_spec_series.proofs.Order.{same_vector-equal, same_vector-other}
-use Rattle.tv_spec_katz.specs.Places.{place, difference, unit, class_difference, is_zero_class}
+use Rattle.tv_spec_katz.specs.Places.{place, difference, unit}
 use Rattle.tv_spec_katz.specs.Product.{Factor}
 use Rattle.tv_spec_katz.specs.Katz.{Integer, factor_at, factors_by, factors}
 use Rattle.tv_laws_katz.specs.Logarithm.{when}

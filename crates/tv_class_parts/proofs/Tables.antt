@@ -4,36 +4,34 @@
 -- found-katz        the row that is found has the product
 -- are-parts         what the classes add to the next one
 -- parts_are_katz, table_goes_on  the laws
-use Rattle.std.specs.Prelude.{◌≡◌, ◌⊎◌, Contains, ℕ, suc, ◌+◌, ◌*◌, ◌/◌, ◌<◌, ◌≤◌, ℤ, pos, ◌+ℤ◌, ◌-ℤ◌, ◌*ℤ◌, ◌≤ℤ◌, ◌<ℤ◌, unsigned_abs, List, [], ◌∷◌, ◌++◌, length, map, drop, true, false}
+use Rattle.std.specs.Prelude.{◌≡◌, ◌⊎◌, Contains, ℕ, suc, ◌+◌, ◌*◌, ◌/◌, ◌<◌, ◌≤◌, ℤ, pos, ◌+ℤ◌, ◌-ℤ◌, ◌*ℤ◌, ◌≤ℤ◌, ◌<ℤ◌, unsigned_abs, List, [], ◌∷◌, ◌++◌, length, map, drop, false}
 use Rattle.std.specs.List.{AllByRecursion, IsDistinct}
-use Rattle.std.specs.Ordering.{int_eq}
-use Rattle.std.proofs.Common.{refl, sym, ap, arith, ◌∙◌, inl, inr, mul_comm, mul-le-mul_left, mul-le-mul_right}
+use Rattle.std.proofs.Common.{sym, ap, arith, ◌∙◌, inl, inr, mul_comm, mul-le-mul_left, mul-le-mul_right}
 use Rattle.std.proofs.Math.IntN.{*ℤ-zero}
 use Rattle.std.proofs.lemmas.Int.{ints}
 use Rattle.std.proofs.lemmas.List.{map-append, get_or_past}
 use Rattle.std.proofs.lemmas.List.Elements.{Contains-append_left, Contains-append_cases}
 use Rattle.std.proofs.lemmas.List.FromFn.{get_or-map-range_with_len}
-use Rattle.std.proofs.lemmas.Bool.{cases_lt, and_parts}
-use Rattle.std.proofs.lemmas.Bool.Decides.{Decides-int_eq}
+use Rattle.std.proofs.lemmas.Bool.{cases_lt}
 use Rattle.tv_lemmas.proofs.Members.{all-onto, all-both, all-append, all-front, all-contains, contains-head, contains-later, contains-cases}
 use Rattle.tv_ring.specs.Whole.{wholes}
 use Rattle.tv_ring.specs.Sums.{at}
 use Rattle.tv_laws_series.specs.Terms.{listed}
-use Rattle.tv_laws_series.proofs.Listed.{at_past, length-listed}
+use Rattle.tv_laws_series.proofs.Listed.{length-listed}
 use Rattle.tv_spec_plane.specs.Web.{degree_of}
-use Rattle.tv_spec_boxes.specs.Assignments.{zeros, plus, same_vector}
+use Rattle.tv_spec_boxes.specs.Assignments.{zeros, same_vector}
 use Rattle.tv_spec_boxes.specs.Classes.{IsBefore, ClassesRise}
 use Rattle.tv_spec_boxes.proofs.OneCornerCrowd.{degree_zero}
 use Rattle.tv_spec_series.specs.Families.{Family}
 use Rattle.tv_spec_series.proofs.Order.{before_apart, first_before, rise_tail, same_vector-other}
 use Rattle.tv_spec_katz.specs.Binomials.{power_sign}
-use Rattle.tv_spec_katz.specs.Places.{place, class_difference, is_zero_class}
+use Rattle.tv_spec_katz.specs.Places.{place}
 use Rattle.tv_spec_katz.specs.Katz.{Integer, factors, katz}
 use Rattle.tv_laws_katz.specs.Gathered.{power_in}
 use Rattle.tv_laws_katz.specs.Logarithm.{begins_at}
-use Rattle.tv_laws_katz.proofs.Elsewhere.{AddsTo, elsewhere, unit_below_one}
+use Rattle.tv_laws_katz.proofs.Elsewhere.{unit_below_one}
 use Rattle.tv_laws_katz.proofs.Units.{unit-none}
-use Rattle.tv_laws_integers.specs.Closed.{IsClassTo, IsClosedList, IsListed}
+use Rattle.tv_laws_integers.specs.Closed.{IsClassTo, IsListed}
 use Rattle.tv_recurrence.specs.KatzParts.{katz_by_weight}
 use Rattle.tv_recurrence.specs.Products.{class_after, row_at, exponent_at, IsPartOf, ArePartsOf}
 use Rattle.tv_class_integers.specs.NextClasses.{read_onto}
@@ -46,7 +44,7 @@ use Rattle.tv_class_parts.specs.Tables.{IsReadClass, IsTable, IsBeforeClass, IsA
 use Rattle.tv_class_parts.proofs.ClassesAfter.{length-after, degree-after}
 use Rattle.tv_class_parts.proofs.Lookups.{find-cases}
 use Rattle.tv_class_parts.proofs.OwnPowersIn.{powers-onto, powers-onto_other}
-use Rattle.tv_laws_integers.proofs.Elsewhere.{zero_class_is, plus-difference, zero-difference, HasPlace, product-elsewhere}
+use Rattle.tv_laws_integers.proofs.Elsewhere.{zero_class_is, HasPlace, product-elsewhere}
 use Rattle.tv_laws_integers.proofs.Existence.{back_rises}
 use Rattle.tv_recurrence.proofs.TakenRows.{at-empty}
 

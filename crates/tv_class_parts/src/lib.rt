@@ -15,3 +15,6 @@ pub use addends::parts;
 pub use fault::ClassFault;
 pub use line::Line;
 pub use read::{ClassRead, read_class};
+
+#[cfg(test)]
+mod tests;

@@ -1,3 +1,4 @@
 pub mod Zero
 pub mod Placed
 pub mod Reading
+pub mod TestFamilies

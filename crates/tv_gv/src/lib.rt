@@ -10,3 +10,6 @@ mod values;
 
 pub use extraction::extract;
 pub use fault::GvFault;
+
+#[cfg(test)]
+mod tests;

@@ -29,7 +29,8 @@ pub fn exponent_of(weight: usize, base: usize) -> i64
     weight as i64 - base as i64
 }
 
-fn coefficient_at(series: &Series<Whole>, exponent: i64) -> Whole
+/// The coefficient at the exponent, 0 where it is not known.
+pub fn coefficient_at(series: &Series<Whole>, exponent: i64) -> Whole
     ensures value { result ≡ coefficient wholes series.now exponent }
 {
     match series.coefficient(exponent) {
