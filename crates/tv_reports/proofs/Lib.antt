@@ -2,3 +2,5 @@ pub mod Printing
 pub mod Sections
 pub mod Remainders
 pub mod IntegerSections
+mod Configs
+mod Counts

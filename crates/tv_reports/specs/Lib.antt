@@ -1,3 +1,4 @@
 pub mod Sections
 pub mod Sums
 pub mod IntegerSections
+pub mod Configs

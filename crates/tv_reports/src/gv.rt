@@ -1,11 +1,12 @@
 //! The report of a family of series and of its integers, class by class. It extracts nothing.
 
-ghost use Rattle.std.specs.Prelude.{◌≡◌, ◌++◌, ◌<◌, ℤ, [], ◌∷◌, Some, length, map, codes, IfOk, OnOk, slice_get, string_bytes};
-ghost use Rattle.std.specs.List.{flat_map};
+ghost use Rattle.std.specs.Prelude.{◌≡◌, ◌++◌, ◌<◌, ◌^◌, ℤ, [], ◌∷◌, Some, length, map, codes, IfOk, OnOk, slice_get, string_bytes};
+ghost use Rattle.std.specs.List.{flat_map, AllByRecursion};
 ghost use Rattle.tv_spec_series.specs.Families.{Row};
 ghost use Rattle.tv_spec_text.specs.Lines.{line_text};
-ghost use Rattle.tv_spec_reports.specs.IntegerLines.{gv_section_lines, gv_text};
-ghost use Rattle.tv_reports.specs.IntegerSections.{gv_section, gv_sections, value_line, entry_lines, gv_head};
+ghost use Rattle.tv_spec_text.specs.Reports.{IsPrintable};
+ghost use Rattle.tv_spec_reports.specs.IntegerLines.{HasSmallNumbers, gv_section_lines, gv_text};
+ghost use Rattle.tv_reports.specs.IntegerSections.{gv_section, gv_sections, value_line, entry_lines, gv_head, IsSmallValue, IsSmallEntry};
 
 use crate::series::section_of;
 use std::alloc::{AllocError, Global};
@@ -22,6 +23,9 @@ pub fn print_gv(alloc: Global, report: &Report) -> Result<Vec<u8>, AllocError>
     requires heights { report.now.integers.heights ≡ report.now.series.heights }
     ensures text { let f = report.now.series in IfOk result (λ v. v.items ≡
         gv_text f.heights f.top f.upto (gv_sections f report.now.integers.integers)) }
+
+    // Each number is told whole: coefficients and integers are at most 2^127 - 1 in absolute value.
+    ensures small { IfOk result (λ _. AllByRecursion HasSmallNumbers (gv_sections report.now.series report.now.integers.integers)) }
 {
     let mut text = String::new(alloc);
     put_head(&mut text, &report.series)?;
@@ -49,8 +53,9 @@ fn put_title(text: &mut String) -> Result<(), AllocError>
 }
 
 fn put_classes(alloc: Global, text: &mut String, report: &Report) -> Result<(), AllocError>
-    ensures { OnOk result (string_bytes text.new ≡ string_bytes text.old
+    ensures text { OnOk result (string_bytes text.new ≡ string_bytes text.old
         ++ flat_map line_text (flat_map gv_section_lines (gv_sections report.now.series report.now.integers.integers))) }
+    ensures small { OnOk result (AllByRecursion HasSmallNumbers (gv_sections report.now.series report.now.integers.integers)) }
 {
     for k in 0..report.series.len() {
         put_class(alloc, text, report, k)?;
@@ -62,7 +67,8 @@ fn put_class(alloc: Global, text: &mut String, report: &Report, k: usize) -> Res
     requires { k < length report.now.series.rows }
     ensures { OnOk result ((row : Row ℤ) × (slice_get report.now.series.rows k ≡ Some row)
         × (string_bytes text.new ≡ string_bytes text.old
-        ++ flat_map line_text (gv_section_lines (gv_section report.now.series.heights report.now.integers.integers row)))) }
+        ++ flat_map line_text (gv_section_lines (gv_section report.now.series.heights report.now.integers.integers row)))
+        × HasSmallNumbers (gv_section report.now.series.heights report.now.integers.integers row)) }
 {
     report.integers.known();
     if let Some(entry) = report.series.at(k) {
@@ -77,8 +83,9 @@ fn put_entry(
     entry: &Entry<'_, Whole>,
     values: &[GenusValue],
 ) -> Result<(), AllocError>
-    ensures { OnOk result (string_bytes text.new ≡ string_bytes text.old
+    ensures text { OnOk result (string_bytes text.new ≡ string_bytes text.old
         ++ flat_map line_text (entry_lines entry.now.degree entry.now.class.now entry.now.series.now values.now)) }
+    ensures small { OnOk result (IsSmallEntry entry.now.series.now values.now) }
 {
     let section = section_of(alloc, entry)?;
     put_section(text, &section)?;
@@ -86,8 +93,9 @@ fn put_entry(
 }
 
 fn put_values(text: &mut String, values: &[GenusValue]) -> Result<(), AllocError>
-    ensures { OnOk result (string_bytes text.new ≡
+    ensures text { OnOk result (string_bytes text.new ≡
         string_bytes text.old ++ flat_map line_text (map value_line values.now)) }
+    ensures small { OnOk result (AllByRecursion IsSmallValue values.now) }
 {
     for value in values {
         put_value(text, value)?;
@@ -97,7 +105,8 @@ fn put_values(text: &mut String, values: &[GenusValue]) -> Result<(), AllocError
 
 #[tactic(auto, unfolding(tv_spec_text::specs::Lines::line_text))]
 fn put_value(text: &mut String, value: &GenusValue) -> Result<(), AllocError>
-    ensures { OnOk result (string_bytes text.new ≡ string_bytes text.old ++ line_text (value_line value.now)) }
+    ensures text { OnOk result (string_bytes text.new ≡ string_bytes text.old ++ line_text (value_line value.now)) }
+    ensures small { OnOk result (IsSmallValue value.now) }
 {
     let genus = value.genus;
     let number = value.value.get();

@@ -1,12 +1,13 @@
 //! The summary of the full series of a grid: what its report counts and sums. It is made of the sections of that report, and
 //! where they come from is not looked at here.
 
-ghost use Rattle.std.specs.Prelude.{◌≡◌, ◌++◌, IfOk, OnOk, string_bytes};
-ghost use Rattle.std.specs.List.{flat_map};
+ghost use Rattle.std.specs.Prelude.{◌≡◌, ◌++◌, ◌≤◌, ◌-◌, ◌^◌, IfOk, OnOk, string_bytes};
+ghost use Rattle.std.specs.List.{flat_map, AllByRecursion};
 ghost use Rattle.tv_spec_text.specs.Lines.{line_text};
+ghost use Rattle.tv_spec_text.specs.Reports.{IsSmall};
 ghost use Rattle.tv_spec_text.specs.Checks.{count_line};
 ghost use Rattle.tv_spec_text.specs.Files.{end_line};
-ghost use Rattle.tv_spec_reports.specs.Summaries.{terms_in, sum_of_terms, sum_in, value_at, zero_in, IsSummary, summary_text};
+ghost use Rattle.tv_spec_reports.specs.Summaries.{terms_in, sum_of_terms, sum_in, value_at, zero_in, IsSummary, HasSmallCounts, summary_text};
 ghost use Rattle.tv_reports.specs.Sums.{IsRemainder, summary_title, number_line, summary_head, summary_counts};
 
 use std::alloc::{AllocError, Global};
@@ -48,7 +49,8 @@ impl Model for Summary {
 
 /// The summary of the sections of a report, of which the first is that of class zero.
 pub fn summarize(grid: u32, degree: u32, upto: i64, sections: &[Section]) -> Summary
-    ensures { IsSummary grid degree upto sections.now result }
+    ensures sums { IsSummary grid degree upto sections.now result }
+    ensures small { AllByRecursion IsSmall sections.now → HasSmallCounts result }
 {
     Summary {
         grid,
@@ -62,7 +64,8 @@ pub fn summarize(grid: u32, degree: u32, upto: i64, sections: &[Section]) -> Sum
 }
 
 fn terms_in(sections: &[Section]) -> u128
-    ensures { result ≡ terms_in sections.now }
+    ensures value { result ≡ terms_in sections.now }
+    ensures small { result ≤ 2 ^ 127 - 1 }
 {
     let mut count = 0u128;
     for section in sections {

@@ -2,13 +2,15 @@
 
 ghost use Rattle.std.specs.Prelude.{◌≡◌, OnOk, IfOk};
 
+use crate::boxes::{print_boxes_head, print_config};
 use crate::check::print_check;
 use crate::gv::print_gv;
 use crate::series::{print_series, sections_of};
 use crate::summary::{print_summary, summarize};
 use std::alloc::Global;
 use std::test::Fail;
-use tv_degrees::grade::grade;
+use tv_cells::cell::Cell;
+use tv_degrees::grade::{GradedWeb, grade};
 use tv_graded::Graded;
 use tv_integers::{Integers, Report};
 use tv_lattice::class::Class;
@@ -52,6 +54,49 @@ fn prints_local_p2(rt: HostRuntime) -> Result<(), Fail> {
     let graded = grade(rt.alloc(), web, heights)?;
     let report = print_check(rt.alloc(), &graded)?;
     assert_eq!(rt; report.as_slice(), LOCAL_P2.as_bytes());
+    Ok(())
+}
+
+// One corner with the given boxes: no diagram, since no edge is compact.
+fn config_text(alloc: Global, web: &GradedWeb, cells: &[(u32, u32, u32)]) -> Result<Vec<u8>, Fail> {
+    let mut boxes = Vec::new(alloc);
+    for (x, y, z) in cells {
+        boxes.push(Cell {
+            x: *x,
+            y: *y,
+            z: *z,
+        })?;
+    }
+    let mut extras = Vec::new(alloc);
+    extras.push(boxes)?;
+    Ok(print_config(alloc, web, &[], &extras)?)
+}
+
+#[test]
+fn prints_two_boxes(rt: HostRuntime) -> Result<(), Fail> {
+    let mut points = Vec::new(rt.alloc());
+    for (x, y) in [(0, 0), (1, 0), (0, 1)] {
+        points.push(Point::new(x, y).ok_or("a point")?)?;
+    }
+    let mut triangles = Vec::new(rt.alloc());
+    triangles.push(Triple { a: 0, b: 1, c: 2 })?;
+    let triangulation = triangulate(rt.alloc(), &points, &triangles)?;
+    let web = build_web(rt.alloc(), triangulation)?;
+    let heights = [0, 0, 0].to_vec(rt.alloc())?;
+    assert!(rt; web.points().len() == 3);
+    let graded = grade(rt.alloc(), web, heights)?;
+    let class = Class::new([0, 0, 0].to_vec(rt.alloc())?);
+    assert!(rt; graded.web().points().len() == 3);
+    let head = print_boxes_head(rt.alloc(), &graded, &class, 2)?;
+    assert_eq!(rt;
+        head.as_slice(),
+        "report boxes\nheights 0 0 0\nchi 2\nclass 0 0 0 0\nsign 1\n".as_bytes()
+    );
+    let config = config_text(rt.alloc(), &graded, &[(0, 0, 0), (0, 0, 1)])?;
+    assert_eq!(rt;
+        config.as_slice(),
+        "config\nbox 0 0 0 0\nbox 0 0 0 1\n".as_bytes()
+    );
     Ok(())
 }
 

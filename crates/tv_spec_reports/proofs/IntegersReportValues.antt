@@ -85,10 +85,15 @@ conifold_tells = record {
   sections = conifold_sections;
   classes = refl;
   each = (
-    record { degree = refl; terms = zero_terms; integers = refl },
+    record { degree = refl; terms = zero_terms; integers = refl; small = record { terms = (omega arith, tt); integers = tt } },
     (
-      record { degree = refl; terms = curve_terms; integers = refl },
-      (record { degree = refl; terms = twice_terms; integers = refl }, tt),
+      record {
+        degree = refl;
+        terms = curve_terms;
+        integers = refl;
+        small = record { terms = (omega arith, (omega arith, (omega arith, (omega arith, (omega arith, tt))))); integers = (record { value = omega arith; genus = omega arith }, tt) };
+      },
+      (record { degree = refl; terms = twice_terms; integers = refl; small = record { terms = (omega arith, (omega arith, (omega arith, tt))); integers = tt } }, tt),
     ),
   );
   printed = refl;

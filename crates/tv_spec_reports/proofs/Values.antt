@@ -17,7 +17,7 @@ use Rattle.tv_spec_text.specs.Reports.{Term, Section, series_text}
 use Rattle.tv_spec_reports.specs.IntegerLines.{GenusValue, GvSection, gv_lines, gv_text}
 use Rattle.tv_spec_reports.specs.Boxes.{boxes_text}
 use Rattle.tv_spec_reports.specs.Grids.{grid_text}
-use Rattle.tv_spec_reports.specs.Summaries.{Summary, terms_in, sum_in, zero_in, IsSummary, summary_text}
+use Rattle.tv_spec_reports.specs.Summaries.{Summary, terms_in, sum_in, zero_in, IsSummary, HasSmallCounts, summary_text}
 use Rattle.tv_spec_reports.specs.Grammar.{GvData, IsWideValue, GvTermFits, GvFits, SpellsGv, IsGv}
 use Rattle.tv_spec_reports.specs.Verdicts.{verdict_text, long_report_line, report_line}
 
@@ -159,6 +159,10 @@ unit_grid_summary = record { grid = 1; degree = 1; upto = pos 4; classes = 2; te
 unit_grid_is_summary : IsSummary 1 1 (pos 4) unit_grid_sections unit_grid_summary
 unfolding unit_grid_sections unit_grid_summary term
 unit_grid_is_summary = record { grid = refl; degree = refl; upto = refl; classes = refl; terms = refl; zero = refl; least = omega arith; multiple = pos 0; sum = refl }
+
+unit_grid_is_small : HasSmallCounts unit_grid_summary
+unfolding unit_grid_summary
+unit_grid_is_small = record { classes = omega arith; terms = omega arith; zero = omega arith }
 
 unit_grid_summary_text : summary_text unit_grid_summary ≡ codes "report summary\ngrid 1\ndegree 1\nupto 4\nclasses 2\nterms 9\nzero 47\nsum 4\nend\n"
 unfolding line_text digits unit_grid_summary

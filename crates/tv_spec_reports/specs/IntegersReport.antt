@@ -4,7 +4,7 @@
 -- genus_value i       == the genus and the value of an integer
 -- integers_of v is    == the integers of the class v other than 0, in the order of the list: genera rise in the list of a family
 -- TellsClass f is s   == the section has the degree of its class, its terms through the exponent of the family, and the integers
---                        of the list that it has
+--                        of the list that it has; each of these numbers is printable
 -- TellsIntegers D f is text == the text is the report of the family and of these integers through degree D: a section for each of
 --                        the family's classes, in order
 -- IsIntegersReport w D N text == the text is the report of the reduced series of the web in degrees to D, through N, and of their
@@ -22,7 +22,7 @@ use Rattle.tv_spec_katz.specs.Katz.{Integer}
 use Rattle.tv_spec_katz.specs.Integers.{IsCompared, Agrees}
 use Rattle.tv_spec_katz.specs.Relations.{AreIntegers}
 use Rattle.tv_spec_text.specs.Reports.{AreTerms}
-use Rattle.tv_spec_reports.specs.IntegerLines.{GenusValue, GvSection, gv_text}
+use Rattle.tv_spec_reports.specs.IntegerLines.{GenusValue, GvSection, HasSmallNumbers, gv_text}
 
 abbrev pub genus_value : Integer → GenusValue
 genus_value i = record { genus = i.genus; value = i.value }
@@ -35,6 +35,7 @@ pub record TellsClass (f : Family ℤ) (is : List Integer) (s : GvSection) : Typ
   pub degree : s.section.degree ≡ degree_of f.heights s.section.entries
   pub terms : AreTerms (coefficient_of wholes f s.section.entries) f.upto s.section.terms
   pub integers : s.integers ≡ integers_of s.section.entries is
+  pub small : HasSmallNumbers s
 
 pub record TellsIntegers (D : ℕ) (f : Family ℤ) (is : List Integer) (text : List ℕ) : Type 0 where
   pub sections : List GvSection

@@ -9,11 +9,13 @@
 -- zero_in n ss   == that of the first section
 -- IsSummary k D N ss s == the summary is that of grid k in degree D through N with these sections: it counts and sums them, and
 --                   has the coefficient of the first of them at N
+-- HasSmallCounts s == there are fewer than 2^64 classes, and the number of terms and the coefficient are printable; the sum is
+--                   below 1000000007, by IsSummary
 -- summary_lines, summary_text == its lines, its text
-use Rattle.std.specs.Prelude.{◌≡◌, ℕ, ◌+◌, ◌<◌, ℤ, pos, ◌+ℤ◌, ◌*ℤ◌, List, [], ◌∷◌, length, codes, cond}
+use Rattle.std.specs.Prelude.{◌≡◌, ℕ, ◌+◌, ◌^◌, ◌<◌, ℤ, pos, ◌+ℤ◌, ◌*ℤ◌, List, [], ◌∷◌, length, codes, cond}
 use Rattle.std.specs.Ordering.{int_eq}
 use Rattle.tv_spec_text.specs.Lines.{Line, text_of, spelled}
-use Rattle.tv_spec_text.specs.Reports.{Term, Section}
+use Rattle.tv_spec_text.specs.Reports.{Term, Section, IsPrintable}
 
 pub record Summary : Type 0 where
   pub grid : ℕ
@@ -55,6 +57,11 @@ pub record IsSummary (k D : ℕ) (N : ℤ) (ss : List Section) (s : Summary) : T
   pub least : s.sum < 1000000007
   pub multiple : ℤ
   pub sum : sum_in ss ≡ pos s.sum +ℤ (multiple *ℤ pos 1000000007)
+
+pub record HasSmallCounts (s : Summary) : Type 0 where
+  pub classes : s.classes < 2 ^ 64
+  pub terms : IsPrintable (pos s.terms)
+  pub zero : IsPrintable s.zero
 
 abbrev pub summary_lines : Summary → List Line
 summary_lines s =

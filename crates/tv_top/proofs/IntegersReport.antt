@@ -24,6 +24,7 @@ use Rattle.tv_laws_families.proofs.ReducedClasses.{reduced_classes}
 use Rattle.tv_laws_integers.proofs.Proved.{reduced_is_normalized}
 use Rattle.tv_integers.specs.Kept.{Kept}
 use Rattle.tv_gv.specs.Extracted.{HasSmallEntries, IsExtractable, HasIntegers, IsTooWide, IsUnequal}
+use Rattle.tv_spec_text.specs.Reports.{IsPrintable}
 use Rattle.tv_spec_reports.specs.IntegerLines.{gv_text}
 use Rattle.tv_spec_reports.specs.IntegersReport.{TellsIntegers, IsIntegersReport}
 use Rattle.tv_reports.specs.IntegerSections.{gv_sections}
@@ -95,7 +96,7 @@ module _ (w : Web) (d : ℕ) (n : ℤ) (f : Family ℤ) (suited : IsSuited w) (d
     told = integers_at_classes w d n f suited.graded suited.heights (let least = order.0 in omega (arith, ints)) reduced k.integers
         (to_degree k.integers printed.integers.are);
     agrees = agrees_too k printed.integers;
-    tells = subst (TellsIntegers d f k.integers) (sym printed.same) (text_tells d f k.integers printed.family reduced.top);
+    tells = subst (TellsIntegers d f k.integers) (sym printed.same) (text_tells d f k.integers printed.family reduced.top printed.small);
   }
 
   -- ---- what is told
@@ -118,8 +119,8 @@ module _ (w : Web) (d : ℕ) (n : ℤ) (f : Family ℤ) (suited : IsSuited w) (d
   majorant_told v m (Ok a) wide h = subst (λ s. CarriesOut (Gv d n) w s a.text.items) (sym h.0) (majorant_line m v, inr (v, (m, beyond v m wide, refl)), h.1)
   majorant_told v m (Err e) wide h = h
 
-  difference : (v : List ℤ) (m x y : ℤ) → IsUnequal f v m x y → IsFirstDifference w d n v m x y
-  difference v m x y unequal = record {
+  difference : (v : List ℤ) (m x y : ℤ) → IsUnequal f v m x y → IsPrintable x → IsPrintable y → IsFirstDifference w d n v m x y
+  difference v m x y unequal small_x small_y = record {
     family = f;
     reduced = reduced;
     integers = unequal.integers;
@@ -128,11 +129,13 @@ module _ (w : Web) (d : ℕ) (n : ℤ) (f : Family ℤ) (suited : IsSuited w) (d
         (subst (λ t. IsMismatch (as_natural t) f.upto f unequal.integers v m) reduced.top unequal.mismatch);
     family_has = unequal.family;
     product_has = unequal.katz;
+    series_small = small_x;
+    product_small = small_y;
   }
 
-  pub difference_told : (v : List ℤ) (m x y : ℤ) (r : Result Answer Failure) → IsUnequal f v m x y → Says r Differs (differs_line m x y v) → IsCarriedOut (Gv d n) w r
-  difference_told v m x y (Ok a) unequal h = subst (λ s. CarriesOut (Gv d n) w s a.text.items) (sym h.0) (differs_line m x y v, record { class = v; exponent = m; series = x; product = y; first = difference v m x y unequal; same = refl }, h.1)
-  difference_told v m x y (Err e) unequal h = h
+  pub difference_told : (v : List ℤ) (m x y : ℤ) (r : Result Answer Failure) → IsUnequal f v m x y → IsPrintable x → IsPrintable y → Says r Differs (differs_line m x y v) → IsCarriedOut (Gv d n) w r
+  difference_told v m x y (Ok a) unequal small_x small_y h = subst (λ s. CarriesOut (Gv d n) w s a.text.items) (sym h.0) (differs_line m x y v, record { class = v; exponent = m; series = x; product = y; first = difference v m x y unequal small_x small_y; same = refl }, h.1)
+  difference_told v m x y (Err e) unequal small_x small_y h = h
 
 -- ---- what is told where there are no reduced series
 

@@ -35,6 +35,7 @@ summary_report k d n f text full summed = record {
   each = full_sections (grid k) d n f f.rows full.upto full.rows (sections_tell f summed.family);
   summary = summed.summary;
   sums = summed.sums;
+  small = summed.small;
   printed = summed.printed;
 }
 

@@ -3,9 +3,10 @@
 -- Says r status line          == the answer has the status and the line; a failure is want of memory
 -- IsPrinted k f text          == the text is the report of the family f, of which each coefficient is small
 -- Prints k f r                == the answer is Done with that text; a failure is want of memory
--- IsPrintedWith f k text       == the text is that of the sections of the family f with the integers k, which are its own
+-- IsPrintedWith f k text       == the text is that of the sections of the family f with the integers k, which are its own, and
+--                               each of their numbers is small
 -- PrintsIntegers f k r        == the answer is Done with that text; a failure is want of memory
--- IsSummed k d n f text        == the text is the summary of the sections of the family f, as one of grid k
+-- IsSummed k d n f text        == the text is the summary of the sections of the family f, as one of grid k, and its counts are small
 -- Summarizes k d n f r        == the answer is Done with that text; a failure is want of memory
 -- CarriesOut c w status text  == the status and the text are deserved by the command over this web
 -- IsCarriedOut c w r          == the answer is so; a failure is want of memory
@@ -26,9 +27,9 @@ use Rattle.tv_integers.specs.Kept.{Kept}
 use Rattle.tv_gv.specs.Extracted.{HasIntegers}
 use Rattle.tv_reports.specs.Sections.{sections_of}
 use Rattle.tv_reports.specs.IntegerSections.{gv_sections}
-use Rattle.tv_spec_reports.specs.IntegerLines.{gv_text}
+use Rattle.tv_spec_reports.specs.IntegerLines.{HasSmallNumbers, gv_text}
 use Rattle.tv_lattice.specs.declared.fault.FileFault.{FileFault}
-use Rattle.tv_spec_reports.specs.Summaries.{Summary, IsSummary, summary_text}
+use Rattle.tv_spec_reports.specs.Summaries.{Summary, IsSummary, HasSmallCounts, summary_text}
 use Rattle.tv_text.specs.Refusals.{fault_line}
 use Rattle.tv_top.specs.Acceptance.{IsAccepted}
 use Rattle.tv_top.specs.Reports.{IsReport, IsWide, IsDiffers}
@@ -55,6 +56,7 @@ Prints kind f r = MatchResult r (λ a. (a.status ≡ Done) × IsPrinted kind f a
 pub record IsPrintedWith (f : Family ℤ) (k : Kept) (text : List ℕ) : Type 0 where
   pub family : IsFamily IsAny wholes f
   pub integers : HasIntegers f k
+  pub small : AllByRecursion HasSmallNumbers (gv_sections f k.integers)
   pub same : text ≡ gv_text f.heights f.top f.upto (gv_sections f k.integers)
 
 abbrev pub PrintsIntegers : Family ℤ → Kept → Result Answer Failure → Type 0
@@ -64,6 +66,7 @@ pub record IsSummed (side degree : ℕ) (upto : ℤ) (f : Family ℤ) (text : Li
   pub family : IsFamily IsAny wholes f
   pub summary : Summary
   pub sums : IsSummary side degree upto (sections_of f) summary
+  pub small : HasSmallCounts summary
   pub printed : text ≡ summary_text summary
 
 abbrev pub Summarizes : ℕ → ℕ → ℤ → Family ℤ → Result Answer Failure → Type 0

@@ -33,5 +33,6 @@ returns-in-Err-Mismatch c =
     let fits_product : FitsSigned w128 c.get-in-Err-Mismatch.result = search rules in
     difference_told w c.args.degree c.args.upto c.args.series suited c.requires.degree c.requires.order c.requires.reduced c.in-Err-Mismatch.class c.in-Err-Mismatch.exponent c.in-Err-Mismatch.series c.in-Err-Mismatch.product _
     (rw c.in-Err-Mismatch.field-0-is at c.in-Err-Mismatch.ensures.fault)
+    (rw c.get.ensures.value at c.get.ensures.range) (rw c.get-in-Err-Mismatch.ensures.value at c.get-in-Err-Mismatch.ensures.range)
     (rw (c.get.ensures.value, c.get-in-Err-Mismatch.ensures.value) at
     (simp (to_z-of_z w64 c.in-Err-Mismatch.exponent fits, to_z-of_z w128 c.get.result fits_series, to_z-of_z w128 c.get-in-Err-Mismatch.result fits_product) at c.differs.ensures))
