@@ -2,5 +2,5 @@ pub mod Listed
 pub mod Bounded
 mod Degrees
 pub mod Summed
-mod Written
+pub mod Written
 mod OpenLegs
