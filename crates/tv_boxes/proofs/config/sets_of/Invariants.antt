@@ -1,0 +1,5 @@
+use Rattle.std.proofs.Common.{◌≡◌, map, take}
+use Rattle.tv_boxes.proofs.config.sets_of.Given as goal
+
+abbrev pub invariant-loop-corner : goal.invariant-loop-corner
+invariant-loop-corner l = map (λ set. set.items) l.sets.items ≡ take l.corner l.fillings.current
