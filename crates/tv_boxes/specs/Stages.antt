@@ -12,8 +12,7 @@
 -- IsFound c s t     == c came first in s, and the rest is to come in t
 -- IsEnded s t       == none was to come in s, nor is in t
 -- IsMoved m s t     == what the move m from s to t tells
--- IsNext now found then == found is the head of the list now, with the rest then, or none where both are empty
-use Rattle.std.specs.Prelude.{◌≡◌, ℕ, ◌+◌, ◌*◌, ◌<◌, ◌≤◌, ℤ, unsigned_abs, List, [], ◌∷◌, ◌++◌, map, length, Option, Some, None}
+use Rattle.std.specs.Prelude.{◌≡◌, ℕ, ◌+◌, ◌*◌, ◌<◌, ◌≤◌, ℤ, unsigned_abs, List, [], ◌∷◌, ◌++◌, map, length}
 use Rattle.std.specs.List.{AllByRecursion, flat_map}
 use Rattle.tv_spec_plane.specs.declared.limits.TheConstants.{GREATEST_ORDER}
 use Rattle.tv_spec_plane.specs.Web.{Web}
@@ -78,7 +77,3 @@ abbrev pub IsMoved : Move → Stages → Stages → Type 0
 IsMoved Further s t = IsFurther s t
 IsMoved (Found c) s t = IsFound c s t
 IsMoved Ended s t = IsEnded s t
-
-abbrev pub IsNext : List Configuration → Option Configuration → List Configuration → Type 0
-IsNext now None then = (now ≡ []) × (then ≡ [])
-IsNext now (Some c) then = now ≡ c ∷ then

@@ -1,6 +1,6 @@
 //! One configuration of boxes, apart from the lister that gave it.
 
-ghost use Rattle.std.specs.Prelude.{◌≡◌, ◌≤◌, map, take, IfOk};
+ghost use Rattle.std.specs.Prelude.{◌≡◌, map, vec_items, IfOk};
 ghost use Rattle.tv_spec_boxes.specs.Configurations.{configuration};
 
 use std::alloc::{AllocError, Global};
@@ -18,12 +18,12 @@ pub struct Config {
 }
 
 impl Model for Config {
-    ghost use Rattle.std.specs.Prelude.{map};
+    ghost use Rattle.std.specs.Prelude.{map, vec_items};
     ghost use Rattle.tv_spec_boxes.specs.Configurations.{Configuration, configuration};
 
     ghost Value = { Configuration };
 
-    ghost view = { λ c. configuration c.legs.items (map (λ set. set.items) c.extras.items) };
+    ghost view = { λ c. configuration c.legs.items (map vec_items c.extras.items) };
 }
 
 impl Config {
@@ -36,7 +36,7 @@ impl Config {
 
     /// The extras of the corners, in the order of corners; those of one corner in the order of cells.
     pub fn extras(&self) -> &[Vec<Cell>]
-        ensures { map (λ set. set.items) result.now ≡ self.now.extras }
+        ensures { map vec_items result.now ≡ self.now.extras }
     {
         self.extras.as_slice()
     }
@@ -57,7 +57,7 @@ pub(crate) fn copy_of(
 
 // A copy of the set at each corner.
 fn sets_of(alloc: Global, fillings: &Fillings) -> Result<Vec<Vec<Cell>>, AllocError>
-    ensures { IfOk result (λ sets. map (λ set. set.items) sets.items ≡ fillings.now.current) }
+    ensures { IfOk result (λ sets. map vec_items sets.items ≡ fillings.now.current) }
 {
     let mut sets = Vec::new(alloc);
     for corner in 0..fillings.len() {

@@ -4,7 +4,7 @@ ghost use Rattle.std.specs.Prelude.{◌≡◌, ◌≤◌, ◌≤ℤ◌, pos, len
 ghost use Rattle.tv_spec_plane.specs.Web.{degree_of};
 ghost use Rattle.tv_spec_boxes.specs.Assignments.{no_legs};
 ghost use Rattle.tv_spec_boxes.specs.Configurations.{configurations};
-ghost use Rattle.tv_boxes.specs.Stages.{IsNext};
+ghost use Rattle.tv_boxes.specs.Next.{IsNext};
 
 use crate::config::Config;
 use crate::stages::Stages;

@@ -1,11 +1,12 @@
 //! The stages between an assignment and the next one. Each call for memory keeps its stage until it is done, so that an error
 //! loses nothing that is still to come.
 
-ghost use Rattle.std.specs.Prelude.{◌≡◌, ◌≤◌, ◌≤ℤ◌, ◌+ℤ◌, ◌∷◌, pos, length, unsigned_abs, IfOk, OnErr, MatchResult};
+ghost use Rattle.std.specs.Prelude.{◌≡◌, ◌≤◌, ◌≤ℤ◌, ◌+ℤ◌, pos, length, unsigned_abs, IfOk, OnErr, MatchResult};
 ghost use Rattle.tv_spec_plane.specs.Web.{degree_of};
 ghost use Rattle.tv_spec_boxes.specs.Assignments.{no_legs};
 ghost use Rattle.tv_spec_boxes.specs.Configurations.{configurations};
-ghost use Rattle.tv_boxes.specs.Stages.{to_come, IsLister, IsAt, IsSame, IsFurther, IsFound, IsMoved, IsNext};
+ghost use Rattle.tv_boxes.specs.Next.{IsNext};
+ghost use Rattle.tv_boxes.specs.Stages.{to_come, IsLister, IsAt, IsSame, IsMoved};
 ghost use Rattle.tv_boxes.specs.declared.stages.Stage.TheVariants.{Between, Chosen, Listing, Standing};
 
 use crate::config::{Config, copy_of};

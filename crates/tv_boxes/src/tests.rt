@@ -85,10 +85,6 @@ fn one_line<'a>(alloc: Global, web: &'a GradedWeb) -> Result<Lister<'a>, Fail> {
     Ok(Lister::start(alloc, web, class, 2)?)
 }
 
-fn next(all: &mut Lister<'_>) -> Result<Config, Fail> {
-    Ok(all.next()?.ok_or("another one")?)
-}
-
 // Whether the corner has these extras in the configuration.
 fn has_extras(config: &Config, corner: usize, cells: &[Cell]) -> bool {
     match config.extras().get(corner) {
@@ -97,18 +93,57 @@ fn has_extras(config: &Config, corner: usize, cells: &[Cell]) -> bool {
     }
 }
 
+// Whether the first edge has these rows in the configuration.
+fn has_rows(config: &Config, rows: &[u32]) -> bool {
+    match config.legs().first() {
+        Some(diagram) => diagram.rows() == rows,
+        None => false,
+    }
+}
+
+// Whether the corner has these extras in the next configuration.
+fn gives(all: &mut Lister<'_>, corner: usize, cells: &[Cell]) -> Result<bool, Fail> {
+    let config = all.next()?.ok_or("another one")?;
+    Ok(has_extras(&config, corner, cells))
+}
+
+// Whether the next configuration has one cell on the edge, and these extras at the corner.
+fn gives_line(all: &mut Lister<'_>, corner: usize, cells: &[Cell]) -> Result<bool, Fail> {
+    let config = all.next()?.ok_or("another one")?;
+    Ok(has_rows(&config, &[1]) && has_extras(&config, corner, cells))
+}
+
+fn ends(all: &mut Lister<'_>) -> Result<bool, Fail> {
+    Ok(all.next()?.is_none())
+}
+
+fn gives_two_boxes(all: &mut Lister<'_>) -> Result<bool, Fail> {
+    let origin = Cell { x: 0, y: 0, z: 0 };
+    let first = gives(all, 0, &[Cell { x: 1, y: 0, z: 0 }, origin])?;
+    let second = gives(all, 0, &[origin, Cell { x: 0, y: 0, z: 1 }])?;
+    let third = gives(all, 0, &[origin, Cell { x: 0, y: 1, z: 0 }])?;
+    Ok(first && second && third)
+}
+
+fn gives_one_box_at_the_second_corner(all: &mut Lister<'_>) -> Result<bool, Fail> {
+    let first = gives_line(all, 1, &[Cell { x: 1, y: 0, z: 0 }])?;
+    let second = gives_line(all, 1, &[Cell { x: 0, y: 1, z: 0 }])?;
+    Ok(first && second)
+}
+
+fn gives_one_box_at_the_first_corner(all: &mut Lister<'_>) -> Result<bool, Fail> {
+    let third = gives_line(all, 0, &[Cell { x: 1, y: 0, z: 0 }])?;
+    let fourth = gives_line(all, 0, &[Cell { x: 0, y: 0, z: 1 }])?;
+    Ok(third && fourth)
+}
+
 #[test]
 fn lists_two_boxes(rt: HostRuntime) -> Result<(), Fail> {
     let web = one_corner(rt.alloc())?;
     let mut all = two_boxes(rt.alloc(), &web)?;
-    let origin = Cell { x: 0, y: 0, z: 0 };
-    let first = next(&mut all)?;
-    assert_eq!(rt; first.legs().len(), 0);
-    assert!(rt; has_extras(&first, 0, &[Cell { x: 1, y: 0, z: 0 }, origin]));
-    assert!(rt; has_extras(&next(&mut all)?, 0, &[origin, Cell { x: 0, y: 0, z: 1 }]));
-    assert!(rt; has_extras(&next(&mut all)?, 0, &[origin, Cell { x: 0, y: 1, z: 0 }]));
-    assert!(rt; all.next()?.is_none());
-    assert!(rt; all.next()?.is_none());
+    assert!(rt; gives_two_boxes(&mut all)?);
+    assert!(rt; ends(&mut all)?);
+    assert!(rt; ends(&mut all)?);
     Ok(())
 }
 
@@ -116,14 +151,8 @@ fn lists_two_boxes(rt: HostRuntime) -> Result<(), Fail> {
 fn lists_one_line_and_one_box(rt: HostRuntime) -> Result<(), Fail> {
     let web = conifold(rt.alloc())?;
     let mut all = one_line(rt.alloc(), &web)?;
-    let first = next(&mut all)?;
-    let line = first.legs().first().ok_or("a diagram")?;
-    assert_eq!(rt; line.rows(), [1].as_slice());
-    assert!(rt; has_extras(&first, 0, &[]));
-    assert!(rt; has_extras(&first, 1, &[Cell { x: 1, y: 0, z: 0 }]));
-    assert!(rt; has_extras(&next(&mut all)?, 1, &[Cell { x: 0, y: 1, z: 0 }]));
-    assert!(rt; has_extras(&next(&mut all)?, 0, &[Cell { x: 1, y: 0, z: 0 }]));
-    assert!(rt; has_extras(&next(&mut all)?, 0, &[Cell { x: 0, y: 0, z: 1 }]));
-    assert!(rt; all.next()?.is_none());
+    assert!(rt; gives_one_box_at_the_second_corner(&mut all)?);
+    assert!(rt; gives_one_box_at_the_first_corner(&mut all)?);
+    assert!(rt; ends(&mut all)?);
     Ok(())
 }
