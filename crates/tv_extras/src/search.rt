@@ -12,7 +12,7 @@ use tv_cells::legs::Legs;
 use tv_cells::{cuts, extras};
 
 /// The greatest number of boxes of a set.
-pub const MOST_BOXES: u32 = 1_048_576;
+pub const MOST_BOXES: u32 = 16_777_216;
 
 /// What is chosen, and where the search stands: before the cell at place `at` where it goes forward, else behind the last choice.
 #[derive(Drop)]
