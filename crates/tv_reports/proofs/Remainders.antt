@@ -1,5 +1,5 @@
 -- Remainders of sums.
-use Rattle.std.proofs.Common.{◌≡◌, ℕ, suc, ◌+◌, ◌-◌, ◌*◌, ◌<◌, ◌%◌, ◌/◌, ℤ, pos, negsuc, ◌+ℤ◌, ◌*ℤ◌, List, [], ◌∷◌, drop, length, get_or, refl, sym, ap, ◌∙◌, arith, subst, add-one, unsigned_abs}
+use Rattle.std.proofs.Common.{◌≡◌, ℕ, ◌+◌, ◌-◌, ◌*◌, ◌<◌, ◌%◌, ◌/◌, ℤ, pos, negsuc, ◌+ℤ◌, List, ◌∷◌, drop, length, get_or, refl, sym, ap, ◌∙◌, arith, subst, add-one, unsigned_abs}
 use Rattle.std.specs.Int.{int_rem_euclid}
 use Rattle.std.proofs.Math.Nat.{div-add-mod}
 use Rattle.std.proofs.Math.Seq.{drop-cons}
