@@ -1,9 +1,8 @@
 -- Lines of configurations, printed one after the other.
-use Rattle.std.proofs.Common.{◌≡◌, ℕ, suc, ◌+◌, ◌<◌, ◌≤◌, ℤ, pos, List, [], ◌∷◌, ◌++◌, length, map, drop, min, refl, sym, ap, ◌∙◌, append_assoc, append-nil, arith, add-one}
+use Rattle.std.proofs.Common.{◌≡◌, ℕ, ◌+◌, ◌<◌, ◌≤◌, ℤ, pos, List, [], ◌∷◌, ◌++◌, length, map, drop, min, refl, sym, ap, ◌∙◌, append_assoc, append-nil, arith, add-one}
 use Rattle.std.specs.Prelude.{codes, get_or}
 use Rattle.std.specs.Global.{Vec}
 use Rattle.std.specs.List.{flat_map, join_with_byte}
-use Rattle.std.proofs.Math.Seq.{drop-cons}
 use Rattle.std.proofs.lemmas.Int.{ints, by_lt_z}
 use Rattle.std.proofs.lemmas.List.{drop_all}
 use Rattle.std.proofs.lemmas.List.Concat.{flat_map-append}
@@ -14,6 +13,7 @@ use Rattle.tv_spec_text.specs.Lines.{Line, line_text, spelled}
 use Rattle.tv_spec_reports.specs.Boxes.{numbers, leg_line, leg_lines, box_line, box_lines}
 use Rattle.tv_text.specs.Printed.{spaced}
 use Rattle.tv_text.proofs.Printing.{join-numbers, line_text-numbers}
+use Rattle.tv_reports.proofs.Printing.{drop_next}
 use Rattle.tv_reports.specs.Configs.{cells_of, rows_spaced, leg_front}
 
 -- ---- the line of a diagram
@@ -57,9 +57,6 @@ left_one first rest all old now next left printed =
 
 left_none : (all rest : List Line) (old now : List ℕ) → rest ≡ [] → now ++ flat_map line_text rest ≡ old ++ flat_map line_text all → now ≡ old ++ flat_map line_text all
 left_none all rest old now none left = sym (append-nil now) ∙ ap (λ ls. now ++ flat_map line_text ls) (sym none) ∙ left
-
-drop_next : {A : Type 0} (xs : List A) (i : ℕ) (x : A) → i < length xs → drop i xs ≡ get_or xs i x ∷ drop (i + 1) xs
-drop_next xs i x h = drop-cons xs i x h ∙ rw add-one refl
 
 -- the lines of the diagrams from edge k on
 abbrev legs_from : List CompactEdge → List Rows → ℕ → List Line

@@ -1,9 +1,9 @@
 -- Remainders of sums.
-use Rattle.std.proofs.Common.{◌≡◌, ℕ, suc, ◌+◌, ◌-◌, ◌*◌, ◌<◌, ◌%◌, ◌/◌, ℤ, pos, negsuc, ◌+ℤ◌, ◌*ℤ◌, List, [], ◌∷◌, drop, length, get_or, refl, sym, ap, ◌∙◌, arith, subst, add-one, unsigned_abs}
+use Rattle.std.proofs.Common.{◌≡◌, ℕ, ◌+◌, ◌-◌, ◌*◌, ◌<◌, ◌%◌, ◌/◌, ℤ, pos, negsuc, ◌+ℤ◌, List, ◌∷◌, drop, length, get_or, refl, sym, ap, ◌∙◌, arith, subst, unsigned_abs}
 use Rattle.std.specs.Int.{int_rem_euclid}
 use Rattle.std.proofs.Math.Nat.{div-add-mod}
-use Rattle.std.proofs.Math.Seq.{drop-cons}
 use Rattle.std.proofs.lemmas.Int.{ints}
+use Rattle.tv_reports.proofs.Printing.{drop_next}
 use Rattle.tv_reports.specs.Sums.{IsRemainder}
 
 pub zero_remainder : IsRemainder 0 (pos 0)
@@ -46,15 +46,12 @@ pub record IsSummed {A : Type 0} (f : List A → ℤ) (xs : List A) (i n : ℕ) 
   pub remainder : IsRemainder n done
   pub left : done +ℤ f (drop i xs) ≡ f xs
 
-drop_next : {A : Type 0} (xs : List A) (i : ℕ) (x : A) → i < length xs → x ≡ get_or xs i x → drop i xs ≡ x ∷ drop (i + 1) xs
-drop_next xs i x h e = drop-cons xs i x h ∙ rw (sym e, add-one) refl
-
 pub summed_none : {A : Type 0} (f : List A → ℤ) (xs : List A) → IsSummed f xs 0 0
 summed_none f xs = record { done = pos 0; remainder = zero_remainder; left = omega (arith, ints) }
 
 pub summed_one : {A : Type 0} (f : List A → ℤ) (g : A → ℤ) → ((x : A) (rest : List A) → f (x ∷ rest) ≡ g x +ℤ f rest)
     → (xs : List A) (i n k : ℕ) (x : A) → i < length xs → x ≡ get_or xs i x → IsRemainder k (g x) → IsSummed f xs i n → IsSummed f xs (i + 1) ((n + k) % 1000000007)
 summed_one f g step xs i n k x h e r s =
-    let first : f (drop i xs) ≡ g x +ℤ f (drop (i + 1) xs) = ap f (drop_next xs i x h e) ∙ step x (drop (i + 1) xs) in
+    let first : f (drop i xs) ≡ g x +ℤ f (drop (i + 1) xs) = ap f (drop_next xs i x h ∙ ap (λ y. y ∷ drop (i + 1) xs) (sym e)) ∙ step x (drop (i + 1) xs) in
     let before = s.left in
     record { done = s.done +ℤ g x; remainder = remainder-add n k s.done (g x) s.remainder r; left = omega (arith, ints) }

@@ -7,7 +7,7 @@
 -- TellsRow f row s  == the section has the class of the row, its degree, and each coefficient other than 0 through the
 --                      exponent of the family
 -- SectionsTell      == in every family of series of whole numbers the section of each row tells that row
-use Rattle.std.specs.Prelude.{◌≡◌, ◌^◌, ◌-◌, ◌≤◌, ℤ, pos, ◌+ℤ◌, unsigned_abs, List, [], ◌∷◌, map, if◌then◌else◌}
+use Rattle.std.specs.Prelude.{◌≡◌, ℤ, pos, ◌+ℤ◌, List, [], ◌∷◌, map, if◌then◌else◌}
 use Rattle.std.specs.List.{AllByRecursion}
 use Rattle.tv_ring.specs.Whole.{wholes, is_zero, IsAny}
 use Rattle.tv_laws_series.specs.Terms.{Terms}

@@ -1,4 +1,4 @@
-//! The check of local P^2, as it is known from outside, and a made-up family in each kind.
+//! The check of local P^2, as it is known from outside, configurations, and a made-up family in each kind.
 
 ghost use Rattle.std.specs.Prelude.{◌≡◌, OnOk, IfOk};
 
@@ -16,11 +16,12 @@ use tv_integers::{Integers, Report};
 use tv_lattice::class::Class;
 use tv_lattice::point::Point;
 use tv_laurent::Series;
+use tv_partition::diagram::Diagram;
 use tv_ring::Whole;
 use tv_spec_plane::records::Triple;
 use tv_text::series::Kind;
 use tv_triangulation::triangulate::triangulate;
-use tv_web::web::build_web;
+use tv_web::web::{Web, build_web};
 
 const LOCAL_P2: &str = "report check
 points 4
@@ -36,63 +37,98 @@ open 2 3 corner 1
 end
 ";
 
+// The web of these points and triangles.
+fn web_of(alloc: Global, places: &[(i64, i64)], corners: &[(u32, u32, u32)]) -> Result<Web, Fail> {
+    let mut points = Vec::new(alloc);
+    for (x, y) in places {
+        points.push(Point::new(*x, *y).ok_or("a point")?)?;
+    }
+    let mut triangles = Vec::new(alloc);
+    for (a, b, c) in corners {
+        triangles.push(Triple {
+            a: *a,
+            b: *b,
+            c: *c,
+        })?;
+    }
+    if points.len() > 4 || triangles.len() > 3 {
+        return Err("few".into());
+    }
+    let triangulation = triangulate(alloc, &points, &triangles)?;
+    Ok(build_web(alloc, triangulation)?)
+}
+
+fn local_p2(alloc: Global) -> Result<GradedWeb, Fail> {
+    let web = web_of(
+        alloc,
+        &[(0, 0), (1, 0), (0, 1), (-1, -1)],
+        &[(0, 1, 2), (0, 2, 3), (0, 3, 1)],
+    )?;
+    let heights = [0, 1, 0, 0].to_vec(alloc)?;
+    if web.points().len() != 4 {
+        return Err("four".into());
+    }
+    Ok(grade(alloc, web, heights)?)
+}
+
 #[test]
 fn prints_local_p2(rt: HostRuntime) -> Result<(), Fail> {
-    let mut points = Vec::new(rt.alloc());
-    for (x, y) in [(0, 0), (1, 0), (0, 1), (-1, -1)] {
-        points.push(Point::new(x, y).ok_or("a point")?)?;
-    }
-    let mut triangles = Vec::new(rt.alloc());
-    for (a, b, c) in [(0, 1, 2), (0, 2, 3), (0, 3, 1)] {
-        triangles.push(Triple { a, b, c })?;
-    }
-    assert!(rt; points.len() == 4 && triangles.len() == 3);
-    let triangulation = triangulate(rt.alloc(), &points, &triangles)?;
-    let web = build_web(rt.alloc(), triangulation)?;
-    let heights = [0, 1, 0, 0].to_vec(rt.alloc())?;
-    assert!(rt; web.points().len() == 4);
-    let graded = grade(rt.alloc(), web, heights)?;
-    let report = print_check(rt.alloc(), &graded)?;
+    let report = print_check(rt.alloc(), &local_p2(rt.alloc())?)?;
     assert_eq!(rt; report.as_slice(), LOCAL_P2.as_bytes());
     Ok(())
 }
 
-// One corner with the given boxes: no diagram, since no edge is compact.
-fn config_text(alloc: Global, web: &GradedWeb, cells: &[(u32, u32, u32)]) -> Result<Vec<u8>, Fail> {
-    let mut boxes = Vec::new(alloc);
-    for (x, y, z) in cells {
-        boxes.push(Cell {
-            x: *x,
-            y: *y,
-            z: *z,
-        })?;
+// No diagram on the first edge, one cell on the second, two in a column on the third.
+fn three_diagrams(alloc: Global) -> Result<Vec<Diagram>, Fail> {
+    let mut legs = Vec::new(alloc);
+    legs.push(Diagram::empty(alloc))?;
+    legs.push(Diagram::new([1].to_vec(alloc)?).ok_or("a diagram")?)?;
+    legs.push(Diagram::new([1, 1].to_vec(alloc)?).ok_or("a diagram")?)?;
+    Ok(legs)
+}
+
+#[test]
+fn prints_diagrams(rt: HostRuntime) -> Result<(), Fail> {
+    let web = local_p2(rt.alloc())?;
+    let legs = three_diagrams(rt.alloc())?;
+    let config = print_config(rt.alloc(), &web, &legs, &[])?;
+    assert_eq!(rt;
+        config.as_slice(),
+        "config\nleg 0 2 1\nleg 0 3 1 1\n".as_bytes()
+    );
+    Ok(())
+}
+
+fn one_corner(alloc: Global) -> Result<GradedWeb, Fail> {
+    let web = web_of(alloc, &[(0, 0), (1, 0), (0, 1)], &[(0, 1, 2)])?;
+    let heights = [0, 0, 0].to_vec(alloc)?;
+    if web.points().len() != 3 {
+        return Err("three".into());
     }
+    Ok(grade(alloc, web, heights)?)
+}
+
+// Two boxes at one corner.
+fn two_boxes(alloc: Global) -> Result<Vec<Vec<Cell>>, Fail> {
+    let mut boxes = Vec::new(alloc);
+    boxes.push(Cell { x: 0, y: 0, z: 0 })?;
+    boxes.push(Cell { x: 0, y: 0, z: 1 })?;
     let mut extras = Vec::new(alloc);
     extras.push(boxes)?;
-    Ok(print_config(alloc, web, &[], &extras)?)
+    Ok(extras)
 }
 
 #[test]
 fn prints_two_boxes(rt: HostRuntime) -> Result<(), Fail> {
-    let mut points = Vec::new(rt.alloc());
-    for (x, y) in [(0, 0), (1, 0), (0, 1)] {
-        points.push(Point::new(x, y).ok_or("a point")?)?;
-    }
-    let mut triangles = Vec::new(rt.alloc());
-    triangles.push(Triple { a: 0, b: 1, c: 2 })?;
-    let triangulation = triangulate(rt.alloc(), &points, &triangles)?;
-    let web = build_web(rt.alloc(), triangulation)?;
-    let heights = [0, 0, 0].to_vec(rt.alloc())?;
-    assert!(rt; web.points().len() == 3);
-    let graded = grade(rt.alloc(), web, heights)?;
+    let web = one_corner(rt.alloc())?;
     let class = Class::new([0, 0, 0].to_vec(rt.alloc())?);
-    assert!(rt; graded.web().points().len() == 3);
-    let head = print_boxes_head(rt.alloc(), &graded, &class, 2)?;
+    assert!(rt; web.web().points().len() == 3);
+    let head = print_boxes_head(rt.alloc(), &web, &class, 2)?;
     assert_eq!(rt;
         head.as_slice(),
         "report boxes\nheights 0 0 0\nchi 2\nclass 0 0 0 0\nsign 1\n".as_bytes()
     );
-    let config = config_text(rt.alloc(), &graded, &[(0, 0, 0), (0, 0, 1)])?;
+    let config = print_config(rt.alloc(), &web, &[], &two_boxes(rt.alloc())?)?;
     assert_eq!(rt;
         config.as_slice(),
         "config\nbox 0 0 0 0\nbox 0 0 0 1\n".as_bytes()

@@ -1,6 +1,6 @@
-use Rattle.std.proofs.Common.{◌≡◌, arith, ap, rules, w64, ◌∙◌}
+use Rattle.std.proofs.Common.{◌≡◌, arith, rules, w64}
 use Rattle.std.specs.Int.{w128}
-use Rattle.std.proofs.lemmas.Int.{ints, to_z-of_z, fits_signed_from_abs}
+use Rattle.std.proofs.lemmas.Int.{to_z-of_z, fits_signed_from_abs}
 use Rattle.tv_spec_text.specs.Reports.{IsPrintable}
 use Rattle.tv_spec_reports.specs.Summaries.{zero_in}
 use Rattle.tv_reports.proofs.Counts.{zero_small}
