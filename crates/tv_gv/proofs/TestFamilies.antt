@@ -4,7 +4,7 @@
 -- IsSmallEntry x    == so it is at the class and the degree of a listed row
 -- IsNoneTo n s      == the series is 0 at the exponents from 1 to n - 1
 -- IsZeroOrPositive hs v == the class is zero, or positive
-use Rattle.std.specs.Prelude.{◌≡◌, ◌≢◌, ◌⊎◌, ℕ, ◌+◌, ◌*◌, ◌≤◌, ◌<◌, ℤ, pos, negsuc, ◌≤ℤ◌, unsigned_abs, slice_get, List, [], ◌∷◌, length, map, Some}
+use Rattle.std.specs.Prelude.{◌≡◌, ◌≢◌, ◌⊎◌, ℕ, ◌+◌, ◌*◌, ◌≤◌, ◌<◌, ℤ, pos, negsuc, ◌*ℤ◌, ◌≤ℤ◌, unsigned_abs, slice_get, List, [], ◌∷◌, length, map, Some}
 use Rattle.std.specs.List.{AllByRecursion}
 use Rattle.std.proofs.Common.{refl, sym, ◌∙◌, ap, subst, arith, inl, inr}
 use Rattle.std.proofs.lemmas.Int.{ints, by_lt_z}
@@ -19,7 +19,7 @@ use Rattle.tv_spec_series.specs.Families.{Row, row, classes, find, coefficient, 
 use Rattle.tv_spec_series.proofs.Rows.{find-class}
 use Rattle.tv_spec_katz.specs.Relations.{IsPositiveClass}
 use Rattle.tv_graded.specs.Listing.{with_degree}
-use Rattle.tv_gv.specs.Extracted.{HasSmallEntries}
+use Rattle.tv_candidates.specs.Closing.{entries_by_degree, HasSmallEntries}
 use Rattle.tv_gv.proofs.Zero.{first-entries}
 
 -- ---- a series that is 1
@@ -70,14 +70,19 @@ all-zero-or-positive hs top n [] are all = tt
 all-zero-or-positive hs top n (x ∷ rows) are all =
     (zero-or-positive hs x.class are.0.place.entries are.0.place.positive all.0, all-zero-or-positive hs top n rows are.1 all.1)
 
-pub all-small : (hs : List ℤ) (rows : List (Row ℤ)) → AllByRecursion IsSmallEntry (map (with_degree hs) rows) →
-    AllByRecursion (HasSmallEntries hs) (classes rows)
-all-small hs [] all = tt
-all-small hs (x ∷ rows) all = (
-  all-onto (λ z. unsigned_abs z ≤ 9 * as_natural (degree_of hs x.class))
-      (λ z. unsigned_abs z ≤ 1000000000 * as_natural (degree_of hs x.class)) (λ z less. omega arith) x.class all.0,
-  all-small hs rows all.1,
-)
+entry-small : (a : ℕ) (d : ℤ) → pos 0 ≤ℤ d → a ≤ 9 * as_natural d → pos a ≤ℤ (pos entries_by_degree *ℤ d)
+entry-small a (pos m) up h = omega (arith, ints)
+entry-small a (negsuc m) up h = absurd (omega (arith, ints))
+
+pub all-small : (hs : List ℤ) (top n : ℤ) (rows : List (Row ℤ)) → AllByRecursion (IsRow IsAny wholes hs top n) rows →
+    AllByRecursion IsSmallEntry (map (with_degree hs) rows) → AllByRecursion (HasSmallEntries hs) (classes rows)
+all-small hs top n [] are all = tt
+all-small hs top n (x ∷ rows) are all =
+    let d = degree_of hs x.class in (
+      all-onto (λ z. unsigned_abs z ≤ 9 * as_natural d) (λ z. pos (unsigned_abs z) ≤ℤ (pos entries_by_degree *ℤ d))
+          (λ z less. entry-small (unsigned_abs z) d are.0.place.positive less) x.class all.0,
+      all-small hs top n rows are.1 all.1,
+    )
 
 -- ---- the first row
 

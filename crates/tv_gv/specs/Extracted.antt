@@ -1,33 +1,29 @@
 -- What is extracted of a family of reduced series: its integers, or the reason why there are none.
 --
 -- degree_to f         == the greatest degree of the family
--- HasSmallEntries hs v == each entry of the class is at most 10^9 times its degree in absolute value
 -- IsExtractable f     == through an exponent from 1 to 64, in degrees to at most 24, normalized, with classes of small entries
 -- HasIntegers f k     == k has the heights and the integers of the family, and Katz's product over them agrees with the family
 -- IsTooWide f v n     == at v and n the majorant of the family and its integers is beyond the limit
 -- IsUnequal f v n series product == v and n are the first place at which the family and Katz's product over its integers
 --                        differ: there these are their values
 -- IsGvFault f fault   == the reason is such a place; want of memory needs none
-use Rattle.std.specs.Prelude.{◌≡◌, ⊤, ℕ, ◌*◌, ◌<◌, ◌≤◌, ℤ, pos, ◌≤ℤ◌, unsigned_abs, List}
+use Rattle.std.specs.Prelude.{◌≡◌, ⊤, ℕ, ◌<◌, ℤ, pos, ◌≤ℤ◌, List}
 use Rattle.std.specs.List.{AllByRecursion}
 use Rattle.tv_lemmas.specs.Naturals.{as_natural}
 use Rattle.tv_ring.specs.Operations.{limit}
 use Rattle.tv_ring.specs.Whole.{wholes}
-use Rattle.tv_spec_plane.specs.Web.{degree_of}
 use Rattle.tv_spec_series.specs.Families.{Family, classes, coefficient_of}
 use Rattle.tv_spec_katz.specs.Katz.{Integer, katz}
 use Rattle.tv_spec_katz.specs.Integers.{IsCompared, Agrees, IsMismatch}
 use Rattle.tv_spec_katz.specs.Relations.{IsNormalized, AreIntegers}
 use Rattle.tv_spec_katz.specs.Majorant.{majorant}
+pub use Rattle.tv_candidates.specs.Closing.{HasSmallEntries}
 use Rattle.tv_integers.specs.Kept.{Kept}
 use Rattle.tv_gv.specs.declared.fault.GvFault.{GvFault}
 use Rattle.tv_gv.specs.declared.fault.GvFault.TheVariants.{Wide, Mismatch, Memory}
 
 abbrev pub degree_to : Family ℤ → ℕ
 degree_to f = as_natural f.top
-
-abbrev pub HasSmallEntries : List ℤ → List ℤ → Type 0
-HasSmallEntries hs v = AllByRecursion (λ x. unsigned_abs x ≤ 1000000000 * as_natural (degree_of hs v)) v
 
 pub record IsExtractable (f : Family ℤ) : Type 0 where
   pub least : pos 1 ≤ℤ f.upto

@@ -7,7 +7,8 @@ ghost use Rattle.tv_ring.specs.Whole.{wholes};
 ghost use Rattle.tv_spec_boxes.specs.Assignments.{zeros};
 ghost use Rattle.tv_spec_series.specs.Families.{classes, coefficient, coefficient_of};
 ghost use Rattle.tv_spec_katz.specs.Relations.{IsPositiveClass};
-ghost use Rattle.tv_gv.specs.Extracted.{HasSmallEntries, IsExtractable};
+ghost use Rattle.tv_candidates.specs.Closing.{HasSmallEntries};
+ghost use Rattle.tv_gv.specs.Extracted.{IsExtractable};
 
 use crate::series::{coefficient_at, exponent_of};
 use crate::{GvFault, extract};

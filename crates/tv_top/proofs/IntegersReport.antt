@@ -1,5 +1,5 @@
 -- What is extracted of the reduced series of a web, and what is told of it.
-use Rattle.std.proofs.Common.{◌≡◌, ℕ, ◌*◌, ◌<◌, ◌≤◌, ℤ, pos, negsuc, ◌*ℤ◌, ◌≤ℤ◌, unsigned_abs, List, length, Result, Ok, Err, inl, inr, refl, sym, ap, ◌∙◌, subst, arith}
+use Rattle.std.proofs.Common.{◌≡◌, ℕ, ◌<◌, ℤ, pos, ◌*ℤ◌, ◌≤ℤ◌, unsigned_abs, List, length, Result, Ok, Err, inl, inr, refl, sym, ap, ◌∙◌, subst, arith}
 use Rattle.std.proofs.lemmas.Int.{ints}
 use Rattle.std.specs.List.{AllByRecursion}
 use Rattle.tv_lemmas.specs.Naturals.{as_natural}
@@ -42,12 +42,8 @@ use Rattle.tv_laws_integers.proofs.AtClasses.{integers_at_classes}
 
 -- ---- a reduced family is one of which integers can be extracted
 
-entry_bound : (n : ℕ) (d : ℤ) → pos n ≤ℤ (pos 402 *ℤ d) → n ≤ 1000000000 * as_natural d
-entry_bound n (pos d) h = omega (arith, ints)
-entry_bound n (negsuc d) h = absurd (omega (arith, ints))
-
 small_entries : (hs v : List ℤ) → AllByRecursion (λ x. pos (unsigned_abs x) ≤ℤ (pos 402 *ℤ degree_of hs v)) v → HasSmallEntries hs v
-small_entries hs v all = all-onto (λ x. pos (unsigned_abs x) ≤ℤ (pos 402 *ℤ degree_of hs v)) (λ x. unsigned_abs x ≤ 1000000000 * as_natural (degree_of hs v)) (λ x h. entry_bound (unsigned_abs x) (degree_of hs v) h) v all
+small_entries hs v all = all-onto (λ x. pos (unsigned_abs x) ≤ℤ (pos 402 *ℤ degree_of hs v)) (λ x. pos (unsigned_abs x) ≤ℤ (pos 1000000000 *ℤ degree_of hs v)) (λ x h. omega (arith, ints)) v all
 
 edges_small : (w : Web) → AllByRecursion HasCoordinates w.points → HasEdgeRule w → AllByRecursion (λ e. AreAtMost 402 (edge_class w e)) (compact w)
 edges_small w small rule = all-onto (HasRule w) (λ e. AreAtMost 402 (edge_class w e)) (λ e r. class_entries-small w e small r) (compact w) rule

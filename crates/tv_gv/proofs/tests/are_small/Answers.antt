@@ -22,5 +22,5 @@ returns c =
     let all = c.loop-entry.invariant.whole (rw (c.in-None.ensures.steps.0) tt) in
     record {
       others = λ _. all-zero-or-positive family.heights family.top family.upto family.rows c.known.ensures.family.rows all;
-      entries = λ _. all-small family.heights family.rows all;
+      entries = λ _. all-small family.heights family.top family.upto family.rows c.known.ensures.family.rows all;
     }
