@@ -2,9 +2,20 @@
 //! series, and doesn't know who wrote the report.
 #![tactic(auto)]
 
+mod begin;
+mod classes;
+mod differences;
 mod fault;
+mod lines;
+mod magnitudes;
+mod numbers;
+mod powers;
+mod product;
+mod raised;
+mod slopes;
 mod verdict;
 mod verification;
+mod weights;
 
 pub use fault::CertFault;
 pub use verdict::Verdict;
