@@ -1,0 +1,5 @@
+pub mod Verified
+pub mod Powers
+pub mod Slopes
+pub mod Differences
+pub mod Plans
