@@ -2,6 +2,7 @@
 //! found out elsewhere, and so is which report is asked for.
 #![tactic(auto)]
 
+pub mod boxes;
 pub mod check;
 pub mod gv;
 pub mod laws;
