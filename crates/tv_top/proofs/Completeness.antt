@@ -20,13 +20,14 @@ use Rattle.tv_text.specs.declared.series.Kind.TheVariants.{Full, Reduced}
 use Rattle.tv_text.specs.Sections.{kind_word}
 use Rattle.tv_top.specs.Commands.{IsSide, IsDegree, IsOrder, IsSeries, IsGenerate, IsSummaryOf, IsCommand, Asks, side_of}
 use Rattle.tv_top.specs.Acceptance.{turned_web, IsFile, IsAccepted, IsUnsoundBy}
-use Rattle.tv_top.specs.Reports.{IsWide, IsDiffers}
+use Rattle.tv_top.specs.Reports.{IsReport, IsWide, IsDiffers, IsUnsuited}
+use Rattle.tv_top.specs.Boxes.{Suits, IsUnsuitedAt}
 use Rattle.tv_top.specs.Rejections.{FaultOf}
 use Rattle.tv_top.specs.Answers.{Change, Gave, IsOver, IsOn, Deserves, DeservesFile, Told, Answers}
 use Rattle.tv_top.specs.Completeness.{Completes, IsGiven}
 use Rattle.tv_top.specs.declared.command.TheConstants.{MIN_SIDE, MAX_SIDE, MAX_DEGREE, MIN_ORDER, MAX_ORDER}
 use Rattle.tv_top.specs.declared.command.Command.{Command}
-use Rattle.tv_top.specs.declared.command.Command.TheVariants.{Check, Series, Gv, Generate, Summary}
+use Rattle.tv_top.specs.declared.command.Command.TheVariants.{Check, Series, Gv, Boxes, Generate, Summary}
 use Rattle.tv_top.specs.declared.status.Status.{Status}
 use Rattle.tv_top.specs.declared.status.Status.TheVariants.{Done, Words, File, Wide, Differs, Memory, ReadFault, WriteFault}
 use Rattle.tv_top.proofs.Reading.{one_file, within_limits, few_bytes, read_or_refused}
@@ -104,6 +105,44 @@ wide_along c d v w line p q h = (line, subst (λ k. IsWide k w line) p (subst (�
 differs_along : (c d : Command) (v w : Web) (line : TextLine) → d ≡ c → v ≡ w → IsDiffers d v line → (l : TextLine) × IsDiffers c w l
 differs_along c d v w line p q h = (line, subst (λ k. IsDiffers k w line) p (subst (λ u. IsDiffers d u line) q h))
 
+unsuited_along : (c d : Command) (v w : Web) (k : ℕ) → d ≡ c → v ≡ w → IsUnsuited d v k → IsUnsuited c w k
+unsuited_along c d v w k p q h = subst (λ e. IsUnsuited e w k) p (subst (λ u. IsUnsuited d u k) q h)
+
+-- a class that suits a web leaves none of its places
+suited_or_not : (w : Web) (v : List ℤ) (k : ℕ) → Suits w v → IsUnsuitedAt w v k → ⊥
+suited_or_not w v k s u = elim u [
+  | inl few ↦ let one_each = s.one_each in let fewer = few.fewer in absurd (omega arith)
+  | inr more ↦ elim more [
+    | inl many ↦ let one_each = s.one_each in let over = many.more in absurd (omega arith)
+    | inr high ↦ let low = s.degree in let over = high.degree in absurd (omega (arith, ints))
+  ]
+]
+
+-- what doesn't suit a web has no report, and no other refusal
+reported_or_unsuited : (c : Command) (w : Web) (k : ℕ) (text : List ℕ) → IsUnsuited c w k → IsReport c w text → ⊥
+reported_or_unsuited (Boxes chi v) w k text u h = suited_or_not w v k h.suits u
+reported_or_unsuited Check w k text u h = absurd u
+reported_or_unsuited (Series kind d n) w k text u h = absurd u
+reported_or_unsuited (Gv d n) w k text u h = absurd u
+reported_or_unsuited (Generate side) w k text u h = absurd u
+reported_or_unsuited (Summary side d n) w k text u h = absurd u
+
+wide_or_unsuited : (c : Command) (w : Web) (k : ℕ) (line : TextLine) → IsUnsuited c w k → IsWide c w line → ⊥
+wide_or_unsuited (Boxes chi v) w k line u h = absurd h
+wide_or_unsuited Check w k line u h = absurd u
+wide_or_unsuited (Series kind d n) w k line u h = absurd u
+wide_or_unsuited (Gv d n) w k line u h = absurd u
+wide_or_unsuited (Generate side) w k line u h = absurd u
+wide_or_unsuited (Summary side d n) w k line u h = absurd u
+
+differs_or_unsuited : (c : Command) (w : Web) (k : ℕ) (line : TextLine) → IsUnsuited c w k → IsDiffers c w line → ⊥
+differs_or_unsuited (Boxes chi v) w k line u h = absurd h
+differs_or_unsuited Check w k line u h = absurd u
+differs_or_unsuited (Series kind d n) w k line u h = absurd u
+differs_or_unsuited (Gv d n) w k line u h = absurd u
+differs_or_unsuited (Generate side) w k line u h = absurd u
+differs_or_unsuited (Summary side d n) w k line u h = absurd u
+
 -- a command is about one web
 
 side_along : (c d : Command) → c ≡ d → side_of c ≡ side_of d
@@ -124,9 +163,15 @@ given_or_file ws io text (Some k) w given file d = none_or_some k (Some k) refl 
 
 -- what the deserved statuses are
 by_accepted : (ws : List Word) (io : Change) (c : Command) (w : Web) → Asks ws c → IsGiven (side_of c) io w → (Rose io.before.faults io.after.faults → ⊥)
-    → (s : Status) (text : List ℕ) → Deserves ws io s text → (s ≡ Done) ⊎ (((s ≡ Wide) × ((l : TextLine) × IsWide c w l)) ⊎ (((s ≡ Differs) × ((l : TextLine) × IsDiffers c w l)) ⊎ (s ≡ Memory)))
+    → (s : Status) (text : List ℕ) → Deserves ws io s text → (s ≡ Done) ⊎ (((s ≡ Wide) × ((l : TextLine) × IsWide c w l)) ⊎ (((s ≡ Differs) × ((l : TextLine) × IsDiffers c w l)) ⊎ (((s ≡ Words) × ((k : ℕ) × IsUnsuited c w k)) ⊎ (s ≡ Memory))))
 by_accepted ws io c w q a n Done text d = inl refl
-by_accepted ws io c w q a n Words text d = absurd (IsPlace-none IsCommand ws d.place (c, q) d.outside)
+by_accepted ws io c w q a n Words text d = elim d [
+  | inl x ↦ absurd (IsPlace-none IsCommand ws x.place (c, q) x.outside)
+  | inr x ↦
+      let same : x.command ≡ c = same_command ws x.command c x.on.asked q in
+      let web : x.web ≡ w = given_web (side_of c) io x.web w (subst (λ k. IsOver (side_of k) io x.web) same x.on.over) a in
+      inr (inr (inr (inl (refl, (x.place, unsuited_along c x.command x.web w x.place same web x.unsuited)))))
+]
 by_accepted ws io c w q a n File text d =
     absurd (given_or_file ws io text (side_of c) w a (side_along c d.command (same_command ws c d.command q d.asked) ∙ d.file) d)
 by_accepted ws io c w q a n Wide text d =
@@ -137,7 +182,7 @@ by_accepted ws io c w q a n Differs text d =
     let same : d.command ≡ c = same_command ws d.command c d.on.asked q in
     let web : d.web ≡ w = given_web (side_of c) io d.web w (subst (λ k. IsOver (side_of k) io d.web) same d.on.over) a in
     inr (inr (inl (refl, differs_along c d.command d.web w d.refusal same web d.differs)))
-by_accepted ws io c w q a n Memory text d = inr (inr (inr refl))
+by_accepted ws io c w q a n Memory text d = inr (inr (inr (inr refl)))
 by_accepted ws io c w q a n ReadFault text d = absurd (n (rose-once _ _ d.rose))
 by_accepted ws io c w q a n WriteFault text d = absurd d
 
@@ -155,7 +200,10 @@ on_refused ws io c d told w f q file e on x = over_refused (side_of d) io told w
 by_refused : (ws : List Word) (io : Change) (c : Command) (told : List ℕ) (f : FileFault) → Asks ws c → side_of c ≡ None → io.before.bytes ≡ Some told → FaultOf told f → (Rose io.before.faults io.after.faults → ⊥)
     → (s : Status) (text : List ℕ) → Deserves ws io s text → (s ≡ File) ⊎ (s ≡ Memory)
 by_refused ws io c told f q file e x n Done text d = absurd (on_refused ws io c d.command told d.web f q file e d.on x)
-by_refused ws io c told f q file e x n Words text d = absurd (IsPlace-none IsCommand ws d.place (c, q) d.outside)
+by_refused ws io c told f q file e x n Words text d = elim d [
+  | inl y ↦ absurd (IsPlace-none IsCommand ws y.place (c, q) y.outside)
+  | inr y ↦ absurd (on_refused ws io c y.command told y.web f q file e y.on x)
+]
 by_refused ws io c told f q file e x n File text d = inl refl
 by_refused ws io c told f q file e x n Wide text d = absurd (on_refused ws io c d.command told d.web f q file e d.on x)
 by_refused ws io c told f q file e x n Differs text d = absurd (on_refused ws io c d.command told d.web f q file e d.on x)
@@ -173,6 +221,25 @@ by_words ws io k p Memory text d = inr refl
 by_words ws io k p ReadFault text d = absurd (IsPlace-none IsCommand ws k (d.command, d.asked) p)
 by_words ws io k p WriteFault text d = absurd d
 
+-- what a command over a web to which it is unsuited deserves
+on_unsuited : {A : Type 0} (ws : List Word) (io : Change) (c d : Command) (v w : Web) (k : ℕ) → Asks ws c → IsGiven (side_of c) io w → IsUnsuited c w k → IsOn ws io d v → (IsUnsuited d v k → ⊥) → A
+on_unsuited ws io c d v w k q a u on none =
+    let same : d ≡ c = same_command ws d c on.asked q in
+    let web : v ≡ w = given_web (side_of c) io v w (subst (λ e. IsOver (side_of e) io v) same on.over) a in
+    absurd (none (unsuited_along d c w v k (sym same) (sym web) u))
+
+by_unsuited : (ws : List Word) (io : Change) (c : Command) (w : Web) (k : ℕ) → Asks ws c → IsGiven (side_of c) io w → IsUnsuited c w k → (Rose io.before.faults io.after.faults → ⊥)
+    → (s : Status) (text : List ℕ) → Deserves ws io s text → (s ≡ Words) ⊎ (s ≡ Memory)
+by_unsuited ws io c w k q a u n Done text d = on_unsuited ws io c d.command d.web w k q a u d.on (λ v. reported_or_unsuited d.command d.web k text v d.report)
+by_unsuited ws io c w k q a u n Words text d = inl refl
+by_unsuited ws io c w k q a u n File text d =
+    absurd (given_or_file ws io text (side_of c) w a (side_along c d.command (same_command ws c d.command q d.asked) ∙ d.file) d)
+by_unsuited ws io c w k q a u n Wide text d = on_unsuited ws io c d.command d.web w k q a u d.on (λ v. wide_or_unsuited d.command d.web k d.refusal v d.wide)
+by_unsuited ws io c w k q a u n Differs text d = on_unsuited ws io c d.command d.web w k q a u d.on (λ v. differs_or_unsuited d.command d.web k d.refusal v d.differs)
+by_unsuited ws io c w k q a u n Memory text d = inr refl
+by_unsuited ws io c w k q a u n ReadFault text d = absurd (n (rose-once _ _ d.rose))
+by_unsuited ws io c w k q a u n WriteFault text d = absurd d
+
 -- the status that was told is the deserved one
 told_status : (out : Change) (text : List ℕ) (s r : Status) → Told out text s r → (Rose out.before.faults out.after.faults → ⊥) → r ≡ s
 told_status out text s r t n = elim t.ends [ inl p ↦ p.0 | inr p ↦ absurd (n (rose-once _ _ p.1.rose)) ]
@@ -180,6 +247,7 @@ told_status out text s r t n = elim t.ends [ inl p ↦ p.0 | inr p ↦ absurd (n
 pub completes : (ws : List Word) (io : Change) (out : Change) (r : Status) → Answers ws io out r → Completes ws io out r
 completes ws io out r a = record {
   accepted = λ c w q given n. let same = told_status out a.text a.status r a.told n.1 in rw same (by_accepted ws io c w q given n.0 a.status a.text a.deserved);
+  unsuited = λ c w k q given u n. let same = told_status out a.text a.status r a.told n.1 in rw same (by_unsuited ws io c w k q given u n.0 a.status a.text a.deserved);
   refused = λ c told f q file e x n. let same = told_status out a.text a.status r a.told n.1 in rw same (by_refused ws io c told f q file e x n.0 a.status a.text a.deserved);
   words = λ k p n. let same = told_status out a.text a.status r a.told n in rw same (by_words ws io k p a.status a.text a.deserved);
 }

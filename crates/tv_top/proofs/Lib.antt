@@ -1,4 +1,5 @@
 pub mod WordPlaces
+pub mod EntryWords
 pub mod Between
 pub mod SameCommand
 pub mod Told
@@ -9,6 +10,7 @@ pub mod IntegersReport
 pub mod SummaryReport
 pub mod Reading
 pub mod RejectedReply
+pub mod ToldPieces
 pub mod Completeness
 pub mod GridWebs
 pub mod Sound

@@ -1,15 +1,16 @@
 -- Words ask for one command at most.
-use Rattle.std.proofs.Common.{◌≡◌, ℕ, ℤ, pos, List, ◌∷◌, length, refl, ap, sym, ◌∙◌, arith}
+use Rattle.std.proofs.Common.{◌≡◌, ℕ, ℤ, pos, List, [], ◌∷◌, map, length, refl, ap, sym, ◌∙◌, arith}
 use Rattle.std.proofs.lemmas.Int.{ints}
-use Rattle.tv_spec_text.specs.Lines.{Word, spelled}
+use Rattle.tv_spec_text.specs.Lines.{Word, spelled, IsNumber}
+use Rattle.std.specs.List.{AllByRecursion}
 use Rattle.tv_spec_text.proofs.Readings.{spelled_injective}
 use Rattle.tv_text.specs.declared.series.Kind.{Kind}
 use Rattle.tv_text.specs.declared.series.Kind.TheVariants.{Full, Reduced}
 use Rattle.tv_text.specs.Sections.{kind_word}
-use Rattle.tv_top.specs.Commands.{IsSide, IsDegree, IsOrder, IsIntegersOrder, IsSeries, IsGv, IsGenerate, IsSummaryOf, Asks}
+use Rattle.tv_top.specs.Commands.{IsSide, IsDegree, IsOrder, IsIntegersOrder, IsSeries, IsGv, IsBoxes, IsGenerate, IsSummaryOf, Asks}
 use Rattle.tv_top.specs.declared.command.TheConstants.{MIN_SIDE, MAX_SIDE, MAX_DEGREE, MIN_ORDER, MIN_INTEGERS_ORDER, MAX_ORDER}
 use Rattle.tv_top.specs.declared.command.Command.{Command}
-use Rattle.tv_top.specs.declared.command.Command.TheVariants.{Check, Series, Gv, Generate, Summary}
+use Rattle.tv_top.specs.declared.command.Command.TheVariants.{Check, Series, Gv, Boxes, Generate, Summary}
 use Rattle.tv_top.proofs.WordPlaces.{head, tail, same_name, name_of, asks_words}
 use Rattle.tv_top.proofs.Between.{between_is_number}
 
@@ -53,6 +54,22 @@ same_gv ws d e y z p q =
     let orders = same_integers_order y z p.order q.order (head (tail words)) in
     cc
 
+same_entries : (u v : List ℤ) → AllByRecursion IsNumber u → AllByRecursion IsNumber v → map spelled u ≡ map spelled v → u ≡ v
+same_entries [] [] p q e = refl
+same_entries [] (z ∷ zs) p q e = cc
+same_entries (y ∷ ys) [] p q e = cc
+same_entries (y ∷ ys) (z ∷ zs) p q e =
+    let first = spelled_injective y z p.0 q.0 (head e) in
+    let others = same_entries ys zs p.1 q.1 (tail e) in
+    cc
+
+same_boxes : (ws : List Word) (y z : ℤ) (u v : List ℤ) → IsBoxes ws y u → IsBoxes ws z v → Boxes y u ≡ Boxes z v
+same_boxes ws y z u v p q =
+    let words = tail (sym p.same ∙ q.same) in
+    let orders = same_order y z p.order q.order (head words) in
+    let entries = same_entries u v p.small q.small (tail words) in
+    cc
+
 same_generate : (ws : List Word) (k l : ℕ) → IsGenerate ws k → IsGenerate ws l → Generate k ≡ Generate l
 same_generate ws k l p q = ap Generate (same_side k l p.within q.within (head (tail (sym p.same ∙ q.same))))
 
@@ -73,6 +90,7 @@ pub same_command : (ws : List Word) (c d : Command) → Asks ws c → Asks ws d 
 same_command ws Check Check p q = refl
 same_command ws (Series k d y) (Series l e z) p q = same_series ws k l d e y z p q
 same_command ws (Gv d y) (Gv e z) p q = same_gv ws d e y z p q
+same_command ws (Boxes y u) (Boxes z v) p q = same_boxes ws y z u v p q
 same_command ws (Generate k) (Generate l) p q = same_generate ws k l p q
 same_command ws (Summary k d y) (Summary l e z) p q = same_summary ws k l d e y z p q
 same_command ws Check (Series k d n) p q = let names = names_of_words ws Check (Series k d n) p q in cc
@@ -95,3 +113,13 @@ same_command ws (Gv a b) (Generate l) p q = let names = names_of_words ws (Gv a 
 same_command ws (Generate l) (Gv a b) p q = let names = names_of_words ws (Generate l) (Gv a b) p q in cc
 same_command ws (Gv a b) (Summary m e o) p q = let names = names_of_words ws (Gv a b) (Summary m e o) p q in cc
 same_command ws (Summary m e o) (Gv a b) p q = let names = names_of_words ws (Summary m e o) (Gv a b) p q in cc
+same_command ws (Boxes z v) Check p q = let names = names_of_words ws (Boxes z v) Check p q in cc
+same_command ws Check (Boxes z v) p q = let names = names_of_words ws Check (Boxes z v) p q in cc
+same_command ws (Boxes z v) (Series k d n) p q = let names = names_of_words ws (Boxes z v) (Series k d n) p q in cc
+same_command ws (Series k d n) (Boxes z v) p q = let names = names_of_words ws (Series k d n) (Boxes z v) p q in cc
+same_command ws (Boxes z v) (Gv a b) p q = let names = names_of_words ws (Boxes z v) (Gv a b) p q in cc
+same_command ws (Gv a b) (Boxes z v) p q = let names = names_of_words ws (Gv a b) (Boxes z v) p q in cc
+same_command ws (Boxes z v) (Generate l) p q = let names = names_of_words ws (Boxes z v) (Generate l) p q in cc
+same_command ws (Generate l) (Boxes z v) p q = let names = names_of_words ws (Generate l) (Boxes z v) p q in cc
+same_command ws (Boxes z v) (Summary m e o) p q = let names = names_of_words ws (Boxes z v) (Summary m e o) p q in cc
+same_command ws (Summary m e o) (Boxes z v) p q = let names = names_of_words ws (Summary m e o) (Boxes z v) p q in cc

@@ -1,16 +1,19 @@
 -- Where words leave the word lists.
-use Rattle.std.proofs.Common.{◌≡◌, ◌≢◌, ℕ, zero, suc, ℤ, pos, List, [], ◌∷◌, ◌++◌, length, map, false, ◌==◌, refl, ap, sym, ◌∙◌, arith}
+use Rattle.std.proofs.Common.{◌≡◌, ◌≢◌, ℕ, ◌+◌, zero, suc, ℤ, pos, List, [], ◌∷◌, ◌++◌, length, map, get_or, false, ◌==◌, refl, ap, sym, ◌∙◌, subst, arith, append-nil}
+use Rattle.std.proofs.lemmas.List.{length-map}
 use Rattle.std.proofs.lemmas.Int.{ints}
-use Rattle.tv_spec_text.specs.Lines.{Word, spelled}
+use Rattle.std.specs.List.{AllByRecursion}
+use Rattle.tv_spec_text.specs.Lines.{Word, spelled, IsNumber}
 use Rattle.tv_spec_text.specs.Places.{Begins, IsPlace}
 use Rattle.tv_text.specs.declared.series.Kind.{Kind}
 use Rattle.tv_text.specs.declared.series.Kind.TheVariants.{Full}
 use Rattle.tv_text.specs.Sections.{kind_word}
-use Rattle.tv_top.specs.Commands.{IsSide, IsDegree, IsOrder, IsIntegersOrder, IsSeries, IsGv, IsGenerate, IsSummaryOf, IsCommand, Asks, name_word, series_words, gv_words, generate_words, summary_words}
+use Rattle.tv_top.specs.Commands.{IsSide, IsDegree, IsOrder, IsIntegersOrder, IsSeries, IsGv, IsBoxes, IsGenerate, IsSummaryOf, IsCommand, Asks, name_word, series_words, gv_words, boxes_words, generate_words, summary_words}
+use Rattle.tv_top.specs.Entries.{SpellEntries, LeavesEntries}
 use Rattle.tv_top.specs.declared.command.Name.{Name}
-use Rattle.tv_top.specs.declared.command.Name.TheVariants.{Check as CheckName, Series as SeriesName, Gv as GvName, Generate as GenerateName, Summary as SummaryName}
+use Rattle.tv_top.specs.declared.command.Name.TheVariants.{Check as CheckName, Series as SeriesName, Gv as GvName, Boxes as BoxesName, Generate as GenerateName, Summary as SummaryName}
 use Rattle.tv_top.specs.declared.command.Command.{Command}
-use Rattle.tv_top.specs.declared.command.Command.TheVariants.{Check, Series, Gv, Generate, Summary}
+use Rattle.tv_top.specs.declared.command.Command.TheVariants.{Check, Series, Gv, Boxes, Generate, Summary}
 
 -- The words in front begin a list of L, and those behind them go on with none.
 
@@ -63,6 +66,9 @@ no_more e = cc
 
 -- the first word of a command
 
+check_or_boxes : name_word CheckName ≡ name_word BoxesName → ⊥
+check_or_boxes e = let firsts : get_or (name_word CheckName) 0 0 ≡ get_or (name_word BoxesName) 0 0 = ap (λ w. get_or w 0 0) e in absurd (omega arith)
+
 pub same_name : (n m : Name) → name_word n ≡ name_word m → n ≡ m
 same_name CheckName CheckName e = refl
 same_name SeriesName SeriesName e = refl
@@ -89,11 +95,23 @@ same_name GvName GenerateName e = absurd (let lengths = ap length e in omega ari
 same_name GenerateName GvName e = absurd (let lengths = ap length e in omega arith)
 same_name GvName SummaryName e = absurd (let lengths = ap length e in omega arith)
 same_name SummaryName GvName e = absurd (let lengths = ap length e in omega arith)
+same_name BoxesName BoxesName e = refl
+same_name BoxesName CheckName e = absurd (check_or_boxes (sym e))
+same_name CheckName BoxesName e = absurd (check_or_boxes e)
+same_name BoxesName SeriesName e = absurd (let lengths = ap length e in omega arith)
+same_name SeriesName BoxesName e = absurd (let lengths = ap length e in omega arith)
+same_name BoxesName GvName e = absurd (let lengths = ap length e in omega arith)
+same_name GvName BoxesName e = absurd (let lengths = ap length e in omega arith)
+same_name BoxesName GenerateName e = absurd (let lengths = ap length e in omega arith)
+same_name GenerateName BoxesName e = absurd (let lengths = ap length e in omega arith)
+same_name BoxesName SummaryName e = absurd (let lengths = ap length e in omega arith)
+same_name SummaryName BoxesName e = absurd (let lengths = ap length e in omega arith)
 
 abbrev pub name_of : Command → Name
 name_of Check = CheckName
 name_of (Series kind d n) = SeriesName
 name_of (Gv d n) = GvName
+name_of (Boxes chi v) = BoxesName
 name_of (Generate k) = GenerateName
 name_of (Summary k d n) = SummaryName
 
@@ -102,6 +120,7 @@ abbrev pub rest_of : Command → List Word
 rest_of Check = []
 rest_of (Series kind d n) = kind_word kind ∷ spelled (pos d) ∷ spelled n ∷ []
 rest_of (Gv d n) = spelled (pos d) ∷ spelled n ∷ []
+rest_of (Boxes chi v) = spelled chi ∷ map spelled v
 rest_of (Generate k) = spelled (pos k) ∷ []
 rest_of (Summary k d n) = spelled (pos k) ∷ spelled (pos d) ∷ spelled n ∷ []
 
@@ -109,6 +128,7 @@ pub asks_words : (ws : List Word) (c : Command) → Asks ws c → ws ≡ name_wo
 asks_words ws Check h = h
 asks_words ws (Series kind d n) h = h.same
 asks_words ws (Gv d n) h = h.same
+asks_words ws (Boxes chi v) h = h.same
 asks_words ws (Generate k) h = h.same
 asks_words ws (Summary k d n) h = h.same
 
@@ -123,6 +143,7 @@ check_rest : (w : Word) (rest : List Word) (c : Command) → Asks (name_word Che
 check_rest w rest Check h = no_more (tail h)
 check_rest w rest (Series kind d n) h = absurd (let lengths = ap length (head h.same) in omega arith)
 check_rest w rest (Gv d n) h = absurd (let lengths = ap length (head h.same) in omega arith)
+check_rest w rest (Boxes chi v) h = check_or_boxes (head h.same)
 check_rest w rest (Generate k) h = absurd (let lengths = ap length (head h.same) in omega arith)
 check_rest w rest (Summary k d n) h = absurd (let lengths = ap length (head h.same) in omega arith)
 
@@ -132,7 +153,7 @@ place_after_check xs some = behind IsCommand (name_word CheckName ∷ []) xs ([]
   short = λ e. absurd (some e);
 })
 
--- what follows `series`, `gv`, `generate` and `summary` in a command
+-- what follows `series`, `gv`, `boxes`, `generate` and `summary` in a command
 record SeriesTail (ws : List Word) : Type 0 where
   kind : Kind
   degree : ℕ
@@ -147,6 +168,13 @@ record GvTail (ws : List Word) : Type 0 where
   through : IsDegree degree
   order : IsIntegersOrder upto
   same : ws ≡ spelled (pos degree) ∷ spelled upto ∷ []
+
+record BoxesTail (ws : List Word) : Type 0 where
+  chi : ℤ
+  entries : List ℤ
+  order : IsOrder chi
+  small : AllByRecursion IsNumber entries
+  same : ws ≡ spelled chi ∷ map spelled entries
 
 record GenerateTail (ws : List Word) : Type 0 where
   side : ℕ
@@ -169,6 +197,7 @@ series_tail : (ws : List Word) (c : Command) → Asks (name_word SeriesName ∷ 
 series_tail ws Check h = other_name SeriesName CheckName _ _ (λ e. cc) h
 series_tail ws (Series k d n) h = record { kind = k; degree = d; upto = n; through = h.through; order = h.order; same = tail h.same }
 series_tail ws (Gv d n) h = other_name SeriesName GvName _ _ (λ e. cc) h.same
+series_tail ws (Boxes chi v) h = other_name SeriesName BoxesName _ _ (λ e. cc) h.same
 series_tail ws (Generate k) h = other_name SeriesName GenerateName _ _ (λ e. cc) h.same
 series_tail ws (Summary k d n) h = other_name SeriesName SummaryName _ _ (λ e. cc) h.same
 
@@ -176,13 +205,23 @@ gv_tail : (ws : List Word) (c : Command) → Asks (name_word GvName ∷ ws) c �
 gv_tail ws Check h = other_name GvName CheckName _ _ (λ e. cc) h
 gv_tail ws (Series k d n) h = other_name GvName SeriesName _ _ (λ e. cc) h.same
 gv_tail ws (Gv d n) h = record { degree = d; upto = n; through = h.through; order = h.order; same = tail h.same }
+gv_tail ws (Boxes chi v) h = other_name GvName BoxesName _ _ (λ e. cc) h.same
 gv_tail ws (Generate k) h = other_name GvName GenerateName _ _ (λ e. cc) h.same
 gv_tail ws (Summary k d n) h = other_name GvName SummaryName _ _ (λ e. cc) h.same
+
+boxes_tail : (ws : List Word) (c : Command) → Asks (name_word BoxesName ∷ ws) c → BoxesTail ws
+boxes_tail ws Check h = other_name BoxesName CheckName _ _ (λ e. cc) h
+boxes_tail ws (Series k d n) h = other_name BoxesName SeriesName _ _ (λ e. cc) h.same
+boxes_tail ws (Gv d n) h = other_name BoxesName GvName _ _ (λ e. cc) h.same
+boxes_tail ws (Boxes chi v) h = record { chi = chi; entries = v; order = h.order; small = h.small; same = tail h.same }
+boxes_tail ws (Generate k) h = other_name BoxesName GenerateName _ _ (λ e. cc) h.same
+boxes_tail ws (Summary k d n) h = other_name BoxesName SummaryName _ _ (λ e. cc) h.same
 
 generate_tail : (ws : List Word) (c : Command) → Asks (name_word GenerateName ∷ ws) c → GenerateTail ws
 generate_tail ws Check h = other_name GenerateName CheckName _ _ (λ e. cc) h
 generate_tail ws (Series k d n) h = other_name GenerateName SeriesName _ _ (λ e. cc) h.same
 generate_tail ws (Gv d n) h = other_name GenerateName GvName _ _ (λ e. cc) h.same
+generate_tail ws (Boxes chi v) h = other_name GenerateName BoxesName _ _ (λ e. cc) h.same
 generate_tail ws (Generate k) h = record { side = k; within = h.within; same = tail h.same }
 generate_tail ws (Summary k d n) h = other_name GenerateName SummaryName _ _ (λ e. cc) h.same
 
@@ -190,6 +229,7 @@ summary_tail : (ws : List Word) (c : Command) → Asks (name_word SummaryName �
 summary_tail ws Check h = other_name SummaryName CheckName _ _ (λ e. cc) h
 summary_tail ws (Series k d n) h = other_name SummaryName SeriesName _ _ (λ e. cc) h.same
 summary_tail ws (Gv d n) h = other_name SummaryName GvName _ _ (λ e. cc) h.same
+summary_tail ws (Boxes chi v) h = other_name SummaryName BoxesName _ _ (λ e. cc) h.same
 summary_tail ws (Generate k) h = other_name SummaryName GenerateName _ _ (λ e. cc) h.same
 summary_tail ws (Summary k d n) h = record { side = k; degree = d; upto = n; within = h.within; through = h.through; order = h.order; same = tail h.same }
 
@@ -247,6 +287,51 @@ place_gv_end xs rest d n g o e some = rw e (behind IsCommand (gv_words d n) rest
   other = λ w ws more e c. no_more (tail (tail (gv_tail (spelled (pos d) ∷ spelled n ∷ w ∷ more) c.0 c.1).same));
   short = λ e. absurd (some e);
 }))
+
+-- the places after `boxes`
+
+boxes_command : (chi : ℤ) (v : List ℤ) → IsOrder chi → AllByRecursion IsNumber v → IsCommand (boxes_words chi v)
+boxes_command chi v o s = (Boxes chi v, record { order = o; small = s; same = refl })
+
+pub place_boxes_chi : (xs : List Word) → ((z : ℤ) (ws : List Word) → IsOrder z → xs ≢ spelled z ∷ ws) → IsPlace IsCommand (name_word BoxesName ∷ xs) 1
+place_boxes_chi xs h = behind IsCommand (name_word BoxesName ∷ []) xs (nought ∷ [], boxes_command (pos 0) [] zero_order tt) (record {
+  other = λ w ws rest e c. let t = boxes_tail (w ∷ rest) c.0 c.1 in h t.chi ws t.order (e ∙ ap (λ v. v ∷ ws) (head t.same));
+  short = λ e c. let t = boxes_tail [] c.0 c.1 in no_more (sym t.same);
+})
+
+-- a word among the spellings of numbers
+number_among : (before entries : List ℤ) (w : Word) (more : List Word) → AllByRecursion IsNumber entries → map spelled before ++ w ∷ more ≡ map spelled entries → (z : ℤ) × IsNumber z × (w ≡ spelled z)
+number_among before [] w more all e = absurd (none_among before w more e)
+  where
+    none_among : (before : List ℤ) (w : Word) (more : List Word) → map spelled before ++ w ∷ more ≡ [] → ⊥
+    none_among [] w more e = no_more e
+    none_among (y ∷ ys) w more e = no_more e
+number_among [] (z ∷ zs) w more all e = (z, all.0, head e)
+number_among (y ∷ ys) (z ∷ zs) w more all e = number_among ys zs w more all.1 (tail e)
+
+length_words : (chi : ℤ) (v : List ℤ) → length (boxes_words chi v) ≡ 2 + length v
+length_words chi v = let both : suc (suc (length (map spelled v))) ≡ 2 + length v = omega (arith, length-map v spelled) in both
+
+pub place_boxes_entry : (xs rest : List Word) (chi : ℤ) (k : ℕ) → IsOrder chi → xs ≡ spelled chi ∷ rest → LeavesEntries rest k → IsPlace IsCommand (name_word BoxesName ∷ xs) k
+place_boxes_entry xs rest chi k o e l =
+    let place = behind IsCommand (boxes_words chi l.before) (l.word ∷ l.behind) ([], boxes_all chi l.before o l.small) (record {
+      other = λ w ws more same c. not_an_entry chi l.before l.word w ws l.behind more l.other same c;
+      short = λ same. absurd (no_more same);
+    }) in
+    let words : name_word BoxesName ∷ xs ≡ boxes_words chi l.before ++ l.word ∷ l.behind = ap (λ ws. name_word BoxesName ∷ ws) (e ∙ ap (λ ws. spelled chi ∷ ws) l.same) in
+    subst (λ n. IsPlace IsCommand (name_word BoxesName ∷ xs) n) (length_words chi l.before ∙ sym l.place_is) (subst (λ ws. IsPlace IsCommand ws (length (boxes_words chi l.before))) (sym words) place)
+  where
+    boxes_all : (chi : ℤ) (v : List ℤ) → IsOrder chi → AllByRecursion IsNumber v → IsCommand (boxes_words chi v ++ [])
+    boxes_all chi v o s = subst IsCommand (sym (append-nil (boxes_words chi v))) (boxes_command chi v o s)
+
+    not_an_entry : (chi : ℤ) (before : List ℤ) (word w : Word) (ws behind more : List Word) → ((z : ℤ) → IsNumber z → word ≢ spelled z) → word ∷ behind ≡ w ∷ ws → IsCommand (boxes_words chi before ++ w ∷ more) → ⊥
+    not_an_entry chi before word w ws behind more other same c =
+        let t = boxes_tail (spelled chi ∷ (map spelled before ++ w ∷ more)) c.0 c.1 in
+        let found = number_among before t.entries w more t.small (tail t.same) in
+        other found.0 found.1 (head same ∙ found.2)
+
+pub words_of_boxes : (xs rest : List Word) (chi : ℤ) (v : List ℤ) → IsOrder chi → xs ≡ spelled chi ∷ rest → SpellEntries rest v → IsBoxes (name_word BoxesName ∷ xs) chi v
+words_of_boxes xs rest chi v o e s = record { order = o; small = s.small; same = rw (e, s.same) refl }
 
 -- the places after `generate`
 

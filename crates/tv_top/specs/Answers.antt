@@ -8,13 +8,17 @@
 --                             nothing was read
 -- IsOn ws io c w           == the words ask for the command c, and w is the web that it is about
 -- DeservesDone ws io text  == the text is the report of the command on that web
+-- words_text k            == the text that names the place k of the words
 -- DeservesWords ws io text == the text names the place at which the words leave every word list
+-- DeservesClass ws io text == the words ask for what doesn't suit that web, and the text names the place of the words that shows it
 -- DeservesFile ws io text  == the command is about a file, and the text names the first check that it fails, of which all bytes
 --                             were taken, or exactly MOST_BYTES + 1
 -- DeservesWide ws io text  == the text names a bound of the command's work on that web that passes 2^127 - 1
 -- DeservesDiffers ws io text == the text names the first place at which the product over the integers of the reduced series of
 --                             that web and these series differ, with both values
 -- DeservesRead ws io text  == the command is about a file, one read failed, and the text is that of a failed read
+-- DeservesBegun ws io text == the command tells its report on that web piece by piece, and the text is that of the first whole
+--                             pieces, followed by that of want of memory
 -- Deserves ws io status text == the status and its text are deserved by these words and this source
 -- Told out text status result == a beginning of the text was appended to the sink, in at most a write for each byte: all of
 --                             it, and the result is the status; or less, then one write failed, and it is WriteFault
@@ -23,8 +27,9 @@
 --                             the command is about a grid
 -- Answers ws io out result == some status and text are deserved, and were told. Where a source or a sink doesn't tell its
 --                             bytes, what is said of them holds of None; over answers that one which tells could give, a
---                             run does the same. Want of memory is deserved always
-use Rattle.std.specs.Prelude.{◌≡◌, ℕ, ◌+◌, ◌≤◌, ◌⊎◌, pos, List, [], ◌∷◌, length, take, codes, Option, Some, None}
+--                             run does the same. Want of memory is deserved always; where the report is told piece by piece,
+--                             it may come behind each of them
+use Rattle.std.specs.Prelude.{◌≡◌, ℕ, ◌+◌, ◌≤◌, ◌⊎◌, pos, List, [], ◌∷◌, ◌++◌, length, take, codes, Option, Some, None}
 use Rattle.std.specs.Io.KnownBytes.{Appends, Consumes, IsAtEnd}
 use Rattle.tv_spec_plane.specs.Web.{Web}
 use Rattle.tv_spec_text.specs.Lines.{Word, Line, line_text, spelled}
@@ -38,7 +43,7 @@ use Rattle.tv_outside.specs.Writing.{GivesAll, GivesPart}
 use Rattle.tv_top.specs.Commands.{Asks, IsCommand, side_of}
 use Rattle.tv_top.specs.Acceptance.{IsAccepted}
 use Rattle.tv_top.specs.Rejections.{FaultOf}
-use Rattle.tv_top.specs.Reports.{IsReport, IsWide, IsDiffers}
+use Rattle.tv_top.specs.Reports.{IsReport, IsWide, IsDiffers, IsUnsuited, IsBegun}
 use Rattle.tv_spec_plane.specs.declared.limits.TheConstants.{MOST_BYTES}
 use Rattle.tv_top.specs.declared.command.Command.{Command}
 use Rattle.tv_top.specs.declared.status.Status.{Status}
@@ -53,6 +58,9 @@ memory_text = line_text (codes "refused" ∷ codes "memory" ∷ [])
 
 abbrev pub read_text : List ℕ
 read_text = line_text (codes "refused" ∷ codes "read" ∷ [])
+
+abbrev pub words_text : ℕ → List ℕ
+words_text place = line_text (codes "refused" ∷ codes "words" ∷ spelled (pos place) ∷ [])
 
 pub record Gave (io : Change) (bytes : List ℕ) : Type 0 where
   pub taken : Consumes io.before.bytes io.after.bytes bytes
@@ -76,7 +84,15 @@ pub record DeservesDone (ws : List Word) (io : Change) (text : List ℕ) : Type 
 pub record DeservesWords (ws : List Word) (io : Change) (text : List ℕ) : Type 0 where
   pub place : ℕ
   pub outside : IsPlace IsCommand ws place
-  pub line : text ≡ line_text (codes "refused" ∷ codes "words" ∷ spelled (pos place) ∷ [])
+  pub line : text ≡ words_text place
+
+pub record DeservesClass (ws : List Word) (io : Change) (text : List ℕ) : Type 0 where
+  pub command : Command
+  pub web : Web
+  pub place : ℕ
+  pub on : IsOn ws io command web
+  pub unsuited : IsUnsuited command web place
+  pub line : text ≡ words_text place
 
 pub record DeservesFile (ws : List Word) (io : Change) (text : List ℕ) : Type 0 where
   pub command : Command
@@ -113,13 +129,21 @@ pub record DeservesRead (ws : List Word) (io : Change) (text : List ℕ) : Type 
   pub rose : RoseOnce io.before.faults io.after.faults
   pub line : text ≡ read_text
 
+pub record DeservesBegun (ws : List Word) (io : Change) (text : List ℕ) : Type 0 where
+  pub command : Command
+  pub web : Web
+  pub pieces : List ℕ
+  pub on : IsOn ws io command web
+  pub begun : IsBegun command web pieces
+  pub broken_off : text ≡ pieces ++ memory_text
+
 abbrev pub Deserves : List Word → Change → Status → List ℕ → Type 0
 Deserves ws io Done text = DeservesDone ws io text
-Deserves ws io Words text = DeservesWords ws io text
+Deserves ws io Words text = DeservesWords ws io text ⊎ DeservesClass ws io text
 Deserves ws io File text = DeservesFile ws io text
 Deserves ws io Wide text = DeservesWide ws io text
 Deserves ws io Differs text = DeservesDiffers ws io text
-Deserves ws io Memory text = text ≡ memory_text
+Deserves ws io Memory text = (text ≡ memory_text) ⊎ DeservesBegun ws io text
 Deserves ws io ReadFault text = DeservesRead ws io text
 Deserves ws io _ text = ⊥
 

@@ -1,8 +1,9 @@
 -- What a run must answer, where nothing fails. It follows from what each status deserves, and says which answers are left.
 --
 -- Completes ws io out result == where no count of faults rises (for `words` that of the sink):
---   accepted: a command and a web that it is about, of an accepted file that the source tells or of a grid, give Done, or Wide
---             or Differs with its cause, or want of memory
+--   accepted: a command and a web that it is about, of an accepted file that the source tells or of a grid, give Done, or Wide,
+--             Differs or Words with its cause, or want of memory
+--   unsuited: where the command asks of that web what doesn't suit it, they give Words, or want of memory
 --   refused:  a command that is about a file, and told bytes that are refused, give File, or want of memory
 --   words:    words that are no command give Words, or want of memory, whatever the source holds
 -- IsGiven side io w   == w is the web of the accepted file that the source tells, or that of the grid of that side
@@ -16,7 +17,7 @@ use Rattle.tv_outside.specs.Faults.{Rose}
 use Rattle.tv_spec_reports.specs.Grids.{grid}
 use Rattle.tv_top.specs.Commands.{Asks, IsCommand, side_of}
 use Rattle.tv_top.specs.Acceptance.{IsAccepted}
-use Rattle.tv_top.specs.Reports.{IsWide, IsDiffers}
+use Rattle.tv_top.specs.Reports.{IsWide, IsDiffers, IsUnsuited}
 use Rattle.tv_top.specs.Rejections.{FaultOf}
 use Rattle.tv_top.specs.Answers.{Change}
 use Rattle.tv_top.specs.declared.command.Command.{Command}
@@ -33,7 +34,10 @@ NothingFails io out = (Rose io.before.faults io.after.faults → ⊥) × (Rose o
 pub record Completes (ws : List Word) (io : Change) (out : Change) (result : Status) : Type 0 where
   pub accepted : (c : Command) (w : Web) → Asks ws c → IsGiven (side_of c) io w → NothingFails io out
       → (result ≡ Done) ⊎ (((result ≡ Wide) × ((line : Line) × IsWide c w line))
-      ⊎ (((result ≡ Differs) × ((line : Line) × IsDiffers c w line)) ⊎ (result ≡ Memory)))
+      ⊎ (((result ≡ Differs) × ((line : Line) × IsDiffers c w line))
+      ⊎ (((result ≡ Words) × ((k : ℕ) × IsUnsuited c w k)) ⊎ (result ≡ Memory))))
+  pub unsuited : (c : Command) (w : Web) (k : ℕ) → Asks ws c → IsGiven (side_of c) io w → IsUnsuited c w k → NothingFails io out
+      → (result ≡ Words) ⊎ (result ≡ Memory)
   pub refused : (c : Command) (bytes : List ℕ) (f : FileFault) → Asks ws c → side_of c ≡ None
       → io.before.bytes ≡ Some bytes → FaultOf bytes f → NothingFails io out → (result ≡ File) ⊎ (result ≡ Memory)
   pub words : (k : ℕ) → IsPlace IsCommand ws k → (Rose out.before.faults out.after.faults → ⊥)

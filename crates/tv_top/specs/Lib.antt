@@ -2,10 +2,13 @@ pub mod Commands
 pub mod Acceptance
 pub mod SeriesReport
 pub mod Integers
+pub mod Boxes
+pub mod Entries
 pub mod Reports
 pub mod Rejections
 pub mod Status
 pub mod Answers
 pub mod Replies
+pub mod Listings
 pub mod Completeness
 pub mod Laws

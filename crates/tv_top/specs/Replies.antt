@@ -10,11 +10,16 @@
 -- Summarizes k d n f r        == the answer is Done with that text; a failure is want of memory
 -- CarriesOut c w status text  == the status and the text are deserved by the command over this web
 -- IsCarriedOut c w r          == the answer is so; a failure is want of memory
+-- in_text r                   == an answer as an outcome whose text is whole; a failure stays
+-- IsReady l                   == the class of the listing suits its web, and its Euler characteristic may be asked for
+-- Stands P o                  == P is true of the status and the text of the outcome; or it is a listing that is ready, and P is
+--                                true of each status and text that the command for it deserves
+-- IsAnswered c w r            == the outcome is deserved by the command over this web; a failure is want of memory
 -- Judges c bytes status text  == the status and the text are deserved by these bytes, all of the source
--- IsJudged c bytes r          == the answer is so; a failure is want of memory
+-- IsJudged c bytes r          == the outcome is so; a failure is want of memory
 -- Fails ws io f               == the failure is one of reading that is deserved, or want of memory
--- Replies ws io r             == the answer and its status are deserved; a failure is as above
-use Rattle.std.specs.Prelude.{◌≡◌, ℤ, List, ℕ, Result, MatchResult, ⊤}
+-- Replies ws io r             == the outcome is deserved; a failure is as above
+use Rattle.std.specs.Prelude.{◌≡◌, ◌⊎◌, ℤ, List, ◌++◌, ℕ, Result, Ok, Err, MatchResult, ⊤}
 use Rattle.std.specs.List.{AllByRecursion}
 use Rattle.tv_ring.specs.Whole.{wholes, IsAny}
 use Rattle.tv_spec_plane.specs.Web.{Web}
@@ -31,15 +36,21 @@ use Rattle.tv_spec_reports.specs.IntegerLines.{HasSmallNumbers, gv_text}
 use Rattle.tv_lattice.specs.declared.fault.FileFault.{FileFault}
 use Rattle.tv_spec_reports.specs.Summaries.{Summary, IsSummary, HasSmallCounts, summary_text}
 use Rattle.tv_text.specs.Refusals.{fault_line}
+use Rattle.tv_top.specs.Commands.{IsOrder}
 use Rattle.tv_top.specs.Acceptance.{IsAccepted}
-use Rattle.tv_top.specs.Reports.{IsReport, IsWide, IsDiffers}
+use Rattle.tv_top.specs.Boxes.{Suits}
+use Rattle.tv_top.specs.Reports.{IsReport, IsWide, IsDiffers, IsUnsuited, IsBegun}
 use Rattle.tv_top.specs.Rejections.{FaultOf}
-use Rattle.tv_top.specs.Answers.{Change, Deserves, DeservesRead, read_text}
+use Rattle.tv_top.specs.Answers.{Change, Deserves, DeservesRead, words_text, memory_text, read_text}
 use Rattle.tv_top.specs.declared.command.Command.{Command}
+use Rattle.tv_top.specs.declared.command.Command.TheVariants.{Boxes}
 use Rattle.tv_top.specs.declared.status.Status.{Status}
-use Rattle.tv_top.specs.declared.status.Status.TheVariants.{Done, File, Wide, Differs}
+use Rattle.tv_top.specs.declared.status.Status.TheVariants.{Done, Words, File, Wide, Differs, Memory as WantOfMemory}
 use Rattle.tv_top.specs.declared.answer.Answer.{Answer}
 use Rattle.tv_top.specs.declared.answer.Failure.{Failure}
+use Rattle.tv_top.specs.declared.answer.Listing.{Listing}
+use Rattle.tv_top.specs.declared.answer.Outcome.{Outcome}
+use Rattle.tv_top.specs.declared.answer.Outcome.TheVariants.{Text, Pieces}
 use Rattle.tv_top.specs.declared.answer.Failure.TheVariants.{Memory, Read}
 
 abbrev pub Says : Result Answer Failure → Status → Line → Type 0
@@ -76,21 +87,37 @@ abbrev pub CarriesOut : Command → Web → Status → List ℕ → Type 0
 CarriesOut c w Done text = IsReport c w text
 CarriesOut c w Wide text = (line : Line) × IsWide c w line × (text ≡ line_text line)
 CarriesOut c w Differs text = (line : Line) × IsDiffers c w line × (text ≡ line_text line)
+CarriesOut c w Words text = (k : ℕ) × IsUnsuited c w k × (text ≡ words_text k)
+CarriesOut c w WantOfMemory text = (text ≡ memory_text) ⊎ ((pieces : List ℕ) × IsBegun c w pieces × (text ≡ pieces ++ memory_text))
 CarriesOut c w _ text = ⊥
 
 abbrev pub IsCarriedOut : Command → Web → Result Answer Failure → Type 0
 IsCarriedOut c w r = MatchResult r (λ a. CarriesOut c w a.status a.text.items) (λ e. e ≡ Memory)
 
+abbrev pub in_text : Result Answer Failure → Result Outcome Failure
+in_text (Ok a) = Ok (Text a)
+in_text (Err e) = Err e
+
+abbrev pub IsReady : Listing → Type 0
+IsReady l = Suits l.web l.class × IsOrder l.chi
+
+abbrev pub Stands : (Status → List ℕ → Type 0) → Outcome → Type 0
+Stands P (Text a) = P a.status a.text.items
+Stands P (Pieces l) = IsReady l × ((s : Status) (text : List ℕ) → CarriesOut (Boxes l.chi l.class) l.web s text → P s text)
+
+abbrev pub IsAnswered : Command → Web → Result Outcome Failure → Type 0
+IsAnswered c w r = MatchResult r (Stands (CarriesOut c w)) (λ e. e ≡ Memory)
+
 abbrev pub Judges : Command → List ℕ → Status → List ℕ → Type 0
 Judges c bytes File text = (f : FileFault) × FaultOf bytes f × (text ≡ line_text (fault_line f))
 Judges c bytes s text = (w : Web) × IsAccepted bytes w × CarriesOut c w s text
 
-abbrev pub IsJudged : Command → List ℕ → Result Answer Failure → Type 0
-IsJudged c bytes r = MatchResult r (λ a. Judges c bytes a.status a.text.items) (λ e. e ≡ Memory)
+abbrev pub IsJudged : Command → List ℕ → Result Outcome Failure → Type 0
+IsJudged c bytes r = MatchResult r (Stands (Judges c bytes)) (λ e. e ≡ Memory)
 
 abbrev pub Fails : List Word → Change → Failure → Type 0
 Fails ws io Memory = ⊤
 Fails ws io Read = DeservesRead ws io read_text
 
-abbrev pub Replies : List Word → Change → Result Answer Failure → Type 0
-Replies ws io r = MatchResult r (λ a. Deserves ws io a.status a.text.items) (Fails ws io)
+abbrev pub Replies : List Word → Change → Result Outcome Failure → Type 0
+Replies ws io r = MatchResult r (Stands (Deserves ws io)) (Fails ws io)

@@ -14,6 +14,8 @@
 --                     that the web is that grid
 -- IsWide c w line   == a bound of the command's work passes 2^127 - 1, and the line names some place where it does
 -- IsDiffers c w line == what the command compares differs, and the line names the first place where it does
+-- IsUnsuited c w k  == what the command asks of the web doesn't suit it, and k is the place of its words that shows it
+-- IsBegun c w text  == the command tells its report piece by piece, and the text is that of the first whole pieces
 use Rattle.std.specs.Prelude.{◌≡◌, ◌⊎◌, ℕ, ℤ, List}
 use Rattle.tv_spec_plane.specs.Web.{Web}
 use Rattle.tv_spec_text.specs.Lines.{Line}
@@ -26,8 +28,9 @@ use Rattle.tv_text.specs.Refusals.{crowd_line, spread_line, majorant_line, diffe
 use Rattle.tv_spec_reports.specs.IntegersReport.{IsIntegersReport}
 use Rattle.tv_top.specs.SeriesReport.{IsSeriesReport, IsCrowded, IsSpreadOut}
 use Rattle.tv_top.specs.Integers.{IsMajorantBeyond, IsFirstDifference}
+use Rattle.tv_top.specs.Boxes.{IsUnsuitedAt, IsBoxesReport, IsBeginning}
 use Rattle.tv_top.specs.declared.command.Command.{Command}
-use Rattle.tv_top.specs.declared.command.Command.TheVariants.{Check, Series, Gv, Generate, Summary}
+use Rattle.tv_top.specs.declared.command.Command.TheVariants.{Check, Series, Gv, Boxes, Generate, Summary}
 
 abbrev pub IsCrowdLine : Web → ℕ → ℤ → Line → Type 0
 IsCrowdLine w degree upto line = (v : List ℤ) × IsCrowded w degree upto v × (line ≡ crowd_line v)
@@ -57,6 +60,7 @@ abbrev pub IsReport : Command → Web → List ℕ → Type 0
 IsReport Check w text = text ≡ check_text w
 IsReport (Series kind degree upto) w text = IsSeriesReport kind w degree upto text
 IsReport (Gv degree upto) w text = IsIntegersReport w degree upto text
+IsReport (Boxes chi entries) w text = IsBoxesReport w entries chi text
 IsReport (Generate side) w text = text ≡ grid_text side
 IsReport (Summary side degree upto) w text = IsSummaryReport side degree upto text
 
@@ -64,9 +68,18 @@ abbrev pub IsWide : Command → Web → Line → Type 0
 IsWide Check w line = ⊥
 IsWide (Series kind degree upto) w line = IsSeriesWide kind w degree upto line
 IsWide (Gv degree upto) w line = IsIntegersWide w degree upto line
+IsWide (Boxes chi entries) w line = ⊥
 IsWide (Generate side) w line = ⊥
 IsWide (Summary side degree upto) w line = IsCrowdLine w degree upto line
 
 abbrev pub IsDiffers : Command → Web → Line → Type 0
 IsDiffers (Gv degree upto) w line = IsDifferenceLine w degree upto line
 IsDiffers _ w line = ⊥
+
+abbrev pub IsUnsuited : Command → Web → ℕ → Type 0
+IsUnsuited (Boxes chi entries) w place = IsUnsuitedAt w entries place
+IsUnsuited _ w place = ⊥
+
+abbrev pub IsBegun : Command → Web → List ℕ → Type 0
+IsBegun (Boxes chi entries) w text = IsBeginning w entries chi text
+IsBegun _ w text = ⊥

@@ -1,10 +1,13 @@
 //! A status with its text, and refusals as such answers. Which answer comes is decided elsewhere.
 
+ghost use Rattle.std.specs.Prelude.{◌≡◌};
 ghost use Rattle.tv_text.specs.Refusals.{fault_line, refusal_line};
-ghost use Rattle.tv_top.specs.Replies.{Says};
+ghost use Rattle.tv_top.specs.Replies.{Says, in_text};
 
 use crate::status::Status;
 use std::alloc::Global;
+use tv_degrees::grade::GradedWeb;
+use tv_lattice::class::Class;
 use tv_lattice::fault::FileFault;
 use tv_text::refusal::{Refusal, print_refusal};
 
@@ -17,6 +20,26 @@ pub(crate) struct Answer {
     pub text: Vec<u8>,
 }
 
+/// The box configurations of a class of the web and of an Euler characteristic, which are made one by one.
+#[derive(Drop)]
+pub(crate) struct Listing {
+    /// The web.
+    pub web: GradedWeb,
+    /// The class, of a degree of at most 24.
+    pub class: Class,
+    /// The Euler characteristic, from -64 to 64.
+    pub chi: i64,
+}
+
+/// What a run comes to before it is told.
+#[derive(Drop)]
+pub(crate) enum Outcome {
+    /// A status and its whole text.
+    Text(Answer),
+    /// A report that is made and told piece by piece.
+    Pieces(Listing),
+}
+
 /// Why there is no text of its own.
 #[derive(Drop)]
 pub(crate) enum Failure {
@@ -24,6 +47,16 @@ pub(crate) enum Failure {
     Memory,
     /// The input could not be read.
     Read,
+}
+
+/// An answer as an outcome.
+pub(crate) fn in_text(answer: Result<Answer, Failure>) -> Result<Outcome, Failure>
+    ensures { result ≡ in_text answer }
+{
+    match answer {
+        Ok(answer) => Ok(Outcome::Text(answer)),
+        Err(failure) => Err(failure),
+    }
 }
 
 /// The refusal of a file.

@@ -5,6 +5,8 @@ ghost use Rattle.tv_spec_text.specs.Lines.{spelled, IsNumber};
 ghost use Rattle.tv_text.specs.Sections.{kind_word};
 ghost use Rattle.tv_top.specs.Commands.{IsBetween, IsSide, IsDegree, name_word, Asks, IsWordsError};
 
+use crate::entries::{Entries, EntriesError, entries_of};
+use std::alloc::Global;
 use thiserror::Error;
 use tv_text::number::number;
 use tv_text::series::Kind;
@@ -28,7 +30,7 @@ pub const MIN_INTEGERS_ORDER: i64 = 1;
 pub const MAX_ORDER: i64 = 64;
 
 /// What the words ask for.
-#[derive(Clone, Copy, Debug, PartialEq, Eq)]
+#[derive(Debug, Drop)]
 pub enum Command {
     /// The edges of the file's web.
     Check,
@@ -36,6 +38,8 @@ pub enum Command {
     Series { kind: Kind, degree: u32, upto: i64 },
     /// The reduced series and their integers in degrees through `degree` (0 to 24), with exponents through `upto` (1 to 64).
     Gv { degree: u32, upto: i64 },
+    /// The box configurations of Euler characteristic `chi` (-64 to 64) of the class with these entries, one by one.
+    Boxes { chi: i64, class: Entries },
     /// The file of the grid with `side` (1 to 7) unit squares along a side.
     Generate { side: u32 },
     /// What the report of that grid's full series, in degrees through `degree` (0 to 24) and with exponents through `upto` (-64 to
@@ -52,6 +56,8 @@ pub(crate) enum Name {
     Series,
     /// `gv`
     Gv,
+    /// `boxes`
+    Boxes,
     /// `generate`
     Generate,
     /// `summary`
@@ -64,11 +70,14 @@ pub enum WordsError {
     /// The first place at which the words leave every word list, from 0; where they end too early, their number.
     #[error("no command has word {0}")]
     At(u64),
+    /// Memory was wanting.
+    #[error("out of memory")]
+    Memory,
 }
 
 /// The command that the words ask for. It errs where they are no command's, with the first place at which they leave every
-/// word list.
-pub fn parse_words(words: &[String]) -> Result<Command, WordsError>
+/// word list, and for want of memory.
+pub fn parse_words(alloc: Global, words: &[String]) -> Result<Command, WordsError>
     ensures { MatchResult result (Asks (map string_bytes words.now)) (IsWordsError (map string_bytes words.now)) }
 {
     let Some((name, rest)) = after_name(words) else {
@@ -78,6 +87,7 @@ pub fn parse_words(words: &[String]) -> Result<Command, WordsError>
         Name::Check => check(rest),
         Name::Series => series(rest),
         Name::Gv => gv(rest),
+        Name::Boxes => boxes(alloc, rest),
         Name::Generate => generate(rest),
         Name::Summary => summary(rest),
     }
@@ -128,6 +138,20 @@ fn gv(rest: &[String]) -> Result<Command, WordsError>
     Ok(Command::Gv { degree, upto })
 }
 
+// The command of the word `boxes` and what follows it.
+fn boxes(alloc: Global, rest: &[String]) -> Result<Command, WordsError>
+    ensures { let words = name_word Name.Boxes ∷ map string_bytes rest.now in MatchResult result (Asks words) (IsWordsError words) }
+{
+    let Some((chi, rest)) = after_number(rest, MIN_ORDER, MAX_ORDER) else {
+        return Err(WordsError::At(1));
+    };
+    match entries_of(alloc, rest) {
+        Ok(class) => Ok(Command::Boxes { chi, class }),
+        Err(EntriesError::At(place)) => Err(WordsError::At(place)),
+        Err(EntriesError::Memory) => Err(WordsError::Memory),
+    }
+}
+
 // The command of the word `generate` and what follows it.
 fn generate(rest: &[String]) -> Result<Command, WordsError>
     ensures { let words = name_word Name.Generate ∷ map string_bytes rest.now in MatchResult result (Asks words) (IsWordsError words) }
@@ -174,6 +198,9 @@ fn after_name<'a>(words: &'a [String]) -> Option<(Name, &'a [String])>
     }
     if let Some(rest) = after_word(words, "gv") {
         return Some((Name::Gv, rest));
+    }
+    if let Some(rest) = after_word(words, "boxes") {
+        return Some((Name::Boxes, rest));
     }
     if let Some(rest) = after_word(words, "generate") {
         return Some((Name::Generate, rest));

@@ -5,10 +5,13 @@
 mod acceptance;
 mod answer;
 mod check;
+mod classes;
 mod command;
+mod entries;
 mod grids;
 mod gv;
 pub mod laws;
+mod pieces;
 mod reply;
 mod running;
 mod series;
@@ -22,5 +25,6 @@ pub use command::{
     Command, MAX_DEGREE, MAX_ORDER, MAX_SIDE, MIN_INTEGERS_ORDER, MIN_ORDER, MIN_SIDE, WordsError,
     parse_words,
 };
+pub use entries::Entries;
 pub use running::run;
 pub use status::Status;

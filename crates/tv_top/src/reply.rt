@@ -1,14 +1,16 @@
 //! What a run is to tell: a report, or one refusal. Nothing is written here, and each command's report is made elsewhere.
 
 ghost use Rattle.std.specs.Prelude.{◌≡◌, ℕ, List, None, map, string_bytes};
-ghost use Rattle.tv_top.specs.Commands.{Asks, IsAsked, side_of};
+ghost use Rattle.tv_top.specs.Commands.{Asks, IsAsked, IsOrder, side_of};
 ghost use Rattle.tv_top.specs.Answers.{Reads};
-ghost use Rattle.tv_top.specs.Replies.{IsCarriedOut, IsJudged, Replies};
+ghost use Rattle.tv_top.specs.Replies.{IsAnswered, IsJudged, Replies};
 
 use crate::acceptance::accept;
-use crate::answer::{Answer, Failure, refuse, reject};
+use crate::answer::{Failure, Listing, Outcome, in_text, refuse, reject};
 use crate::check::check_answer;
+use crate::classes::class_of;
 use crate::command::{Command, WordsError, parse_words};
+use crate::entries::Entries;
 use crate::grids::{generate_answer, summary_answer};
 use crate::gv::gv_answer;
 use crate::series::series_answer;
@@ -25,20 +27,21 @@ pub(crate) fn reply<S: Source>(
     alloc: Global,
     words: &[String],
     source: &mut S,
-) -> Result<Answer, Failure>
+) -> Result<Outcome, Failure>
     ensures deserved { Replies (map string_bytes words.now)
         (record { before = S.seen source.old; after = S.seen source.new }) result }
     ensures reads { Reads (map string_bytes words.now)
         (record { before = S.seen source.old; after = S.seen source.new }) }
 {
-    match parse_words(words) {
+    match parse_words(alloc, words) {
         Ok(command) => answer_to(alloc, command, source),
-        Err(WordsError::At(place)) => refuse(alloc, Status::Words, &Refusal::Words(place)),
+        Err(WordsError::At(place)) => in_text(refuse(alloc, Status::Words, &Refusal::Words(place))),
+        Err(WordsError::Memory) => Err(Failure::Memory),
     }
 }
 
 // A command about a grid reads nothing.
-fn answer_to<S: Source>(alloc: Global, command: Command, source: &mut S) -> Result<Answer, Failure>
+fn answer_to<S: Source>(alloc: Global, command: Command, source: &mut S) -> Result<Outcome, Failure>
     requires { IsAsked command }
     ensures deserved { (ws : List (List ℕ)) → Asks ws command →
         Replies ws (record { before = S.seen source.old; after = S.seen source.new }) result }
@@ -49,8 +52,11 @@ fn answer_to<S: Source>(alloc: Global, command: Command, source: &mut S) -> Resu
         Command::Check => over_source(alloc, command, source),
         Command::Series { .. } => over_source(alloc, command, source),
         Command::Gv { .. } => over_source(alloc, command, source),
-        Command::Generate { side } => generate_answer(alloc, side),
-        Command::Summary { side, degree, upto } => summary_answer(alloc, side, degree, upto),
+        Command::Boxes { .. } => over_source(alloc, command, source),
+        Command::Generate { side } => in_text(generate_answer(alloc, side)),
+        Command::Summary { side, degree, upto } => {
+            in_text(summary_answer(alloc, side, degree, upto))
+        }
     }
 }
 
@@ -58,7 +64,7 @@ fn over_source<S: Source>(
     alloc: Global,
     command: Command,
     source: &mut S,
-) -> Result<Answer, Failure>
+) -> Result<Outcome, Failure>
     requires asked { IsAsked command }
     requires file { side_of command ≡ None }
     ensures deserved { (ws : List (List ℕ)) → Asks ws command →
@@ -68,35 +74,54 @@ fn over_source<S: Source>(
 {
     match read_all(alloc, source, MOST_BYTES) {
         Ok(bytes) => judge(alloc, &bytes, command),
-        Err(ReadEnd::TooLong) => reject(alloc, FileFault::TooLong),
+        Err(ReadEnd::TooLong) => in_text(reject(alloc, FileFault::TooLong)),
         Err(ReadEnd::Fault) => Err(Failure::Read),
         Err(ReadEnd::Memory) => Err(Failure::Memory),
     }
 }
 
-fn judge(alloc: Global, bytes: &[u8], command: Command) -> Result<Answer, Failure>
+fn judge(alloc: Global, bytes: &[u8], command: Command) -> Result<Outcome, Failure>
     requires asked { IsAsked command }
     requires file { side_of command ≡ None }
     ensures { IsJudged command bytes.now result }
 {
     match accept(alloc, bytes) {
-        Ok(web) => carry_out(alloc, &web, command),
-        Err(InputError::Fault(fault)) => reject(alloc, fault),
+        Ok(web) => over_web(alloc, web, command),
+        Err(InputError::Fault(fault)) => in_text(reject(alloc, fault)),
         Err(InputError::Memory) => Err(Failure::Memory),
     }
 }
 
 // One row for each command that is about a file.
-fn carry_out(alloc: Global, web: &GradedWeb, command: Command) -> Result<Answer, Failure>
+fn over_web(alloc: Global, web: GradedWeb, command: Command) -> Result<Outcome, Failure>
     requires asked { IsAsked command }
     requires file { side_of command ≡ None }
-    ensures { IsCarriedOut command web.now result }
+    ensures { IsAnswered command web result }
 {
     match command {
-        Command::Check => check_answer(alloc, web),
-        Command::Series { kind, degree, upto } => series_answer(alloc, web, kind, degree, upto),
-        Command::Gv { degree, upto } => gv_answer(alloc, web, degree, upto),
+        Command::Check => in_text(check_answer(alloc, &web)),
+        Command::Series { kind, degree, upto } => {
+            in_text(series_answer(alloc, &web, kind, degree, upto))
+        }
+        Command::Gv { degree, upto } => in_text(gv_answer(alloc, &web, degree, upto)),
+        Command::Boxes { chi, class } => boxes_answer(alloc, web, chi, class),
         Command::Generate { .. } => unreachable!(),
         Command::Summary { .. } => unreachable!(),
+    }
+}
+
+// The listing of that class, or the place of the words that shows that the class doesn't suit the web.
+fn boxes_answer(
+    alloc: Global,
+    web: GradedWeb,
+    chi: i64,
+    entries: Entries,
+) -> Result<Outcome, Failure>
+    requires order { IsOrder chi }
+    ensures { IsAnswered (Command.Boxes chi entries) web result }
+{
+    match class_of(&web, entries) {
+        Ok(class) => Ok(Outcome::Pieces(Listing { web, class, chi })),
+        Err(place) => in_text(refuse(alloc, Status::Words, &Refusal::Words(place))),
     }
 }

@@ -4,22 +4,22 @@ ghost use Rattle.std.specs.Prelude.{map, string_bytes};
 ghost use Rattle.tv_top.specs.Answers.{Answers};
 ghost use Rattle.tv_top.specs.Completeness.{Completes};
 
-use crate::answer::Failure;
+use crate::answer::{Failure, Outcome};
+use crate::pieces::tell_listing;
 use crate::reply::reply;
 use crate::status::Status;
-use crate::telling::tell;
+use crate::telling::{tell, tell_memory};
 use std::alloc::Global;
 use tv_outside::{Sink, Source};
-
-const MEMORY_TEXT: &[u8] = b"refused memory\n";
 
 const READ_TEXT: &[u8] = b"refused read\n";
 
 /// Carries out the command that the words give, over the source's bytes or a grid, and writes its report or one refusal.
 ///
 /// The words are read first; then, where the command is about a file, the source to its end; then the whole text is made;
-/// last it is written. Want of
-/// memory may come at any time before that.
+/// last it is written. Want of memory may come at any time before that. A report of box configurations is made and written
+/// piece by piece: its head, each configuration, its end. Want of memory may come before each piece, and its line then follows
+/// the pieces that were written.
 pub fn run<S: Source, K: Sink>(
     alloc: Global,
     words: &[String],
@@ -48,8 +48,9 @@ fn carry_out<S: Source, K: Sink>(
         (record { before = K.seen sink.old; after = K.seen sink.new }) result }
 {
     match reply(alloc, words, source) {
-        Ok(answer) => tell(sink, &answer.text, answer.status),
-        Err(Failure::Memory) => tell(sink, MEMORY_TEXT, Status::Memory),
+        Ok(Outcome::Text(answer)) => tell(sink, &answer.text, answer.status),
+        Ok(Outcome::Pieces(listing)) => tell_listing(alloc, sink, listing),
+        Err(Failure::Memory) => tell_memory(sink),
         Err(Failure::Read) => tell(sink, READ_TEXT, Status::ReadFault),
     }
 }

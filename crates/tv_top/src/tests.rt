@@ -188,3 +188,30 @@ fn a_summary_reads_nothing(rt: HostRuntime) -> Result<(), Fail> {
     assert_eq!(rt; from.faults(), 0);
     Ok(())
 }
+
+const TWO_BOXES: &[u8] =
+    b"report boxes\nheights 0 0 0\nchi 2\nclass 0 0 0 0\nsign 1\nconfig\nbox 0 1 0 0\nbox 0 0 0 0\nconfig\nbox 0 0 0 0\nbox 0 0 0 1\nconfig\nbox 0 0 0 0\nbox 0 0 1 0\nend\n";
+
+#[test]
+fn tells_two_boxes_at_one_corner(rt: HostRuntime) -> Result<(), Fail> {
+    let alloc = rt.alloc();
+    let words = words(alloc, &["boxes", "2", "0", "0", "0"])?;
+    let mut from = source(alloc, &[])?;
+    let mut to = sink(alloc, 10, &[])?;
+    let status = run(alloc, &words, &mut from, &mut to);
+    assert!(rt; status == Status::Done);
+    assert!(rt; to.bytes() == TWO_BOXES);
+    Ok(())
+}
+
+#[test]
+fn a_class_with_an_entry_too_few_is_refused(rt: HostRuntime) -> Result<(), Fail> {
+    let alloc = rt.alloc();
+    let words = words(alloc, &["boxes", "2", "0", "0"])?;
+    let mut from = source(alloc, &[])?;
+    let mut to = sink(alloc, 10, &[])?;
+    let status = run(alloc, &words, &mut from, &mut to);
+    assert!(rt; status == Status::Words);
+    assert!(rt; to.bytes() == b"refused words 4\n".as_slice());
+    Ok(())
+}

@@ -8,7 +8,7 @@ pub returns-in-Err-TooLong-clause-deserved : goal.returns-in-Err-TooLong-clause-
 returns-in-Err-TooLong-clause-deserved g c = λ ws q.
     let takes = c.in-Err-TooLong.ensures in
     let outcome = rw c.in-Err-TooLong.field-0-is at takes.outcome in
-    too_long_reply ws _ c.args.command takes.bytes _ q c.requires.file takes.taken outcome.1 outcome.0 c.reject.ensures
+    too_long_reply ws _ c.args.command takes.bytes _ _ c.in_text.ensures q c.requires.file takes.taken outcome.1 outcome.0 c.reject.ensures
 
 pub returns-in-Err-TooLong-clause-reads : goal.returns-in-Err-TooLong-clause-reads
 returns-in-Err-TooLong-clause-reads g c = λ ws q.
@@ -26,14 +26,6 @@ returns-in-Err-Fault-clause-reads g c = λ ws q.
     let within : length takes.bytes ≤ MOST_BYTES + 1 = omega arith in
     command_reads ws _ c.args.command takes.bytes q c.requires.file takes.taken within takes.calls takes.later
 
-pub returns-in-Err-Memory-clause-reads : goal.returns-in-Err-Memory-clause-reads
-returns-in-Err-Memory-clause-reads g c = λ ws q.
-    let takes = c.in-Err-Memory.ensures in
-    let outcome = rw c.in-Err-Memory.field-0-is at takes.outcome in
-    let count = outcome.0 in
-    let within : length takes.bytes ≤ MOST_BYTES + 1 = omega arith in
-    command_reads ws _ c.args.command takes.bytes q c.requires.file takes.taken within takes.calls takes.later
-
 pub returns-in-Ok-clause-deserved : goal.returns-in-Ok-clause-deserved
 returns-in-Ok-clause-deserved g c = λ ws q.
     let takes = c.in-Ok.ensures in
@@ -46,5 +38,13 @@ pub returns-in-Ok-clause-reads : goal.returns-in-Ok-clause-reads
 returns-in-Ok-clause-reads g c = λ ws q.
     let takes = c.in-Ok.ensures in
     let count = takes.outcome.within in
+    let within : length takes.bytes ≤ MOST_BYTES + 1 = omega arith in
+    command_reads ws _ c.args.command takes.bytes q c.requires.file takes.taken within takes.calls takes.later
+
+pub returns-clause-reads : goal.returns-clause-reads
+returns-clause-reads g c = λ ws q.
+    let takes = c.in-Err-Memory.ensures in
+    let outcome = rw c.in-Err-Memory.field-0-is at takes.outcome in
+    let count = outcome.0 in
     let within : length takes.bytes ≤ MOST_BYTES + 1 = omega arith in
     command_reads ws _ c.args.command takes.bytes q c.requires.file takes.taken within takes.calls takes.later
