@@ -19,16 +19,11 @@ use Rattle.tv_spec_katz.specs.Relations.{IsPositiveClass}
 use Rattle.tv_laws_integers.specs.Closed.{IsClassTo, IsClosedList, IsListed}
 use Rattle.tv_laws_integers.proofs.Sorted.{all_sorted}
 use Rattle.tv_integers.specs.Kept.{Kept, AreKept}
-use Rattle.tv_candidates.specs.Closing.{entries_by_degree, AddsClasses, HasSmallEntries as CandidateEntries}
+use Rattle.tv_candidates.specs.Closing.{AddsClasses, HasSmallEntries}
 use Rattle.tv_candidates.proofs.Adding.{added_none, added_more}
-use Rattle.tv_gv.specs.Extracted.{HasSmallEntries, degree_to}
-use Rattle.tv_gv.proofs.Zero.{entries-small}
+use Rattle.tv_gv.specs.Extracted.{degree_to}
 use Rattle.tv_cert.specs.Verified.{IsCheckable}
 use Rattle.tv_cert.proofs.Genera.{numbered, class-positive, listed-class, take-next}
-
-entry-small : (a : ℕ) (z : ℤ) → pos 0 ≤ℤ z → a ≤ 1000000000 * as_natural z → pos a ≤ℤ (pos entries_by_degree *ℤ z)
-entry-small a (pos m) up h = omega (arith, ints)
-entry-small a (negsuc m) up h = absurd (omega (arith, ints))
 
 all-numbered : (P : List ℤ → Type 0) (k : Kept) → AllByRecursion (λ (i : Integer). P i.class) k.integers →
     AllByRecursion P (numbered k)
@@ -43,17 +38,8 @@ module _ (f : Family ℤ) (k : Kept) (checkable : IsCheckable f k) (kept : AreKe
   positive : AllByRecursion (λ (i : Integer). IsPositiveClass hs i.class) k.integers
   positive = rw checkable.heights at (class-positive k.heights k.integers kept)
 
-  small-of : (v : List ℤ) → HasSmallEntries hs v → pos 0 ≤ℤ degree_of hs v → CandidateEntries hs v
-  small-of v small up =
-      all-onto (λ x. unsigned_abs x ≤ 1000000000 * as_natural (degree_of hs v))
-      (λ x. pos (unsigned_abs x) ≤ℤ (pos entries_by_degree *ℤ degree_of hs v))
-      (λ x h. entry-small (unsigned_abs x) (degree_of hs v) up h) v small
-
-  pub numbered-small : AllByRecursion (CandidateEntries hs) (numbered k)
-  numbered-small =
-      all-numbered (CandidateEntries hs) k (all-both (λ (i : Integer). HasSmallEntries hs i.class)
-      (λ (i : Integer). IsPositiveClass hs i.class) (λ (i : Integer). CandidateEntries hs i.class)
-      (λ i small class. let up = class.degree in small-of i.class small (omega (arith, ints))) k.integers checkable.entries positive)
+  pub numbered-small : AllByRecursion (HasSmallEntries hs) (numbered k)
+  numbered-small = all-numbered (HasSmallEntries hs) k checkable.entries
 
   pub numbered-placed : AllByRecursion (HasPlace hs f.top) (numbered k)
   numbered-placed =
@@ -71,11 +57,11 @@ module _ (f : Family ℤ) (k : Kept) (checkable : IsCheckable f k) (kept : AreKe
       (λ i within class. record { positive = class; within = omega (arith, ints) }) k.integers checkable.within positive)
 
   module _ (family : IsFamily IsAny wholes f) (g : Family ℤ) (adds : AddsClasses (numbered k) f g) where
-    pub named-small : AllByRecursion (CandidateEntries g.heights) (classes g.rows)
-    named-small = rw adds.heights (all-onto (Contains (classes g.rows)) (CandidateEntries hs)
-        (λ u there. elim ((adds.members u).0 there) as (λ _. CandidateEntries hs u) [
-          | inl new ↦ all-contains (CandidateEntries hs) (numbered k) u numbered-small new
-          | inr old ↦ all-contains (CandidateEntries hs) (classes f.rows) u (entries-small f family checkable.extractable) old
+    pub named-small : AllByRecursion (HasSmallEntries g.heights) (classes g.rows)
+    named-small = rw adds.heights (all-onto (Contains (classes g.rows)) (HasSmallEntries hs)
+        (λ u there. elim ((adds.members u).0 there) as (λ _. HasSmallEntries hs u) [
+          | inl new ↦ all-contains (HasSmallEntries hs) (numbered k) u numbered-small new
+          | inr old ↦ all-contains (HasSmallEntries hs) (classes f.rows) u checkable.extractable.entries old
         ]) (classes g.rows) (all-members (classes g.rows)))
 
     module _ (vs : List (List ℤ)) (closed : IsClosedList (as_natural g.top) g vs) where

@@ -17,7 +17,8 @@ use Rattle.tv_spec_katz.specs.Katz.{Integer, katz}
 use Rattle.tv_spec_katz.specs.Integers.{IsCompared, Agrees, IsMismatch}
 use Rattle.tv_spec_katz.specs.Majorant.{majorant}
 use Rattle.tv_integers.specs.Kept.{Kept}
-use Rattle.tv_gv.specs.Extracted.{IsExtractable, HasSmallEntries, degree_to}
+use Rattle.tv_candidates.specs.Closing.{HasSmallEntries}
+use Rattle.tv_gv.specs.Extracted.{IsExtractable, degree_to}
 use Rattle.tv_cert.specs.declared.fault.CertFault.{CertFault}
 use Rattle.tv_cert.specs.declared.fault.CertFault.TheVariants.{Wide, Memory}
 use Rattle.tv_cert.specs.declared.verdict.Verdict.{Verdict}
