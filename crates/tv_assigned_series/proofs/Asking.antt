@@ -1,13 +1,14 @@
 -- What the assignments of a list ask for: what is put in for one of them, and what a number that is too great means.
-use Rattle.std.proofs.Common.{◌≡◌, ℕ, zero, suc, ◌<◌, ◌^◌, List, [], ◌∷◌, length, get_or, sym, ◌∙◌, ap, subst, inl, inr}
+use Rattle.std.proofs.Common.{◌≡◌, ℕ, zero, suc, ◌<◌, ◌*◌, ◌^◌, List, [], ◌∷◌, length, get_or, sym, ◌∙◌, ap, subst, inl, inr}
 use Rattle.std.specs.Prelude.{ℤ, pos, ◌+ℤ◌, ◌-ℤ◌, ◌≤ℤ◌, Contains, slice_index_or, slice_get, Some, None}
 use Rattle.std.proofs.Common.{arith}
 use Rattle.std.proofs.lemmas.Int.{ints}
-use Rattle.tv_ring.specs.Operations.{Operations}
+use Rattle.tv_ring.specs.Operations.{Operations, limit}
 use Rattle.tv_spec_plane.specs.Web.{Web}
 use Rattle.tv_cells.specs.declared.legs.Legs.{Legs}
 use Rattle.tv_spec_boxes.specs.Assignments.{Assignment, all_legs, no_legs, edge_costs, overlaps_of}
 use Rattle.tv_spec_boxes.specs.Configurations.{boxes_left}
+use Rattle.tv_images.specs.Least.{least, HasCountsOf}
 use Rattle.tv_assigned_series.specs.declared.asked.Most.{Most}
 use Rattle.tv_assigned_series.specs.declared.fault.PrepareFault.{PrepareFault}
 use Rattle.tv_assigned_series.specs.declared.fault.PrepareFault.TheVariants.{Wide, Memory}
@@ -16,10 +17,14 @@ use Rattle.tv_assigned_series.proofs.Inserted.{each-insert}
 
 module _ (w : Web) (n : ℤ) (all : List Assignment) where
   -- a corner of an assignment asks for the boxes that are left to it
-  pub asks : (k : ℕ) (a : Assignment) (legs : List Legs) (corner : Legs) (i : ℕ) (start : ℤ) (left : ℕ) → k < length all → a ≡ slice_index_or all k [] → legs ≡ all_legs w a (no_legs w) → i < length legs → corner ≡ get_or legs i corner → start ≡ edge_costs w a -ℤ pos (overlaps_of legs) → start +ℤ pos left ≡ n → left < 2 ^ 29 → IsAsked w n all corner (record { boxes = left; by = k })
-  asks k a legs corner i start left h read are within at begins ends few = record {
+  pub asks : (k : ℕ) (a : Assignment) (legs : List Legs) (corner : Legs) (i : ℕ) (start : ℤ) (left : ℕ) → k < length all → a ≡ slice_index_or all k [] → legs ≡ all_legs w a (no_legs w) → i < length legs → corner ≡ get_or legs i corner → start ≡ edge_costs w a -ℤ pos (overlaps_of legs) → start +ℤ pos left ≡ n → left < 2 ^ 29 →
+      (image : Legs) → image ≡ least corner → HasCountsOf corner image → IsAsked w n all image (record { boxes = left; by = k })
+  asks k a legs corner i start left h read are within at begins ends few image is counts = record {
     place = h;
-    corner = subst (λ ls. Contains ls corner) (are ∙ ap (λ b. all_legs w b (no_legs w)) read) (i, within, sym at);
+    corner = corner;
+    least = is;
+    counts = counts;
+    among = subst (λ ls. Contains ls corner) (are ∙ ap (λ b. all_legs w b (no_legs w)) read) (i, within, sym at);
     few = few;
     left = subst (λ b. pos left ≤ℤ boxes_left w (no_legs w) b n) read (boxes (edge_costs w a) (pos (overlaps_of (all_legs w a (no_legs w)))) (begins ∙ ap (λ ls. edge_costs w a -ℤ pos (overlaps_of ls)) are));
   } where
@@ -43,5 +48,5 @@ module _ (w : Web) (n : ℤ) (all : List Assignment) where
   -- more boxes than are asked for at a corner are too many at the assignment that asks for them
   pub wide-by : {A : Type 0} (r : Operations A) (legs : Legs) (most : Most) (fault : PrepareFault) → IsAsked w n all legs most → IsWideAt r legs most fault → IsWideBy r w n all fault
   wide-by r legs most (Wide k) asked wide =
-      rw wide.0 (asked.place, record { left = most.boxes; boxes = asked.left; beyond = inr (record { corner = legs; listed = asked.corner; boxes = wide.1.0; within = wide.1.1; beyond = wide.1.2 }) })
+      rw wide.0 (asked.place, record { left = most.boxes; boxes = asked.left; beyond = inr (record { corner = asked.corner; listed = asked.among; boxes = wide.1.0; within = wide.1.1; beyond = subst (λ c. limit < c * r.size r.unit) (asked.counts wide.1.0) wide.1.2 }) })
   wide-by r legs most Memory asked wide = tt

@@ -1,7 +1,7 @@
 -- Series that are kept by the legs of their corners: what is found and what is put in.
-use Rattle.std.proofs.Common.{◌≡◌, ℕ, zero, suc, ◌+◌, ◌<◌, ◌≤◌, Bool, true, false, cond, not, List, [], ◌∷◌, length, get_or, position, Some, refl, sym, ◌∙◌, ap, subst, arith, w64, to_z, of_z}
+use Rattle.std.proofs.Common.{◌≡◌, ℕ, zero, suc, ◌+◌, ◌<◌, ◌≤◌, Bool, true, false, cond, not, List, [], ◌∷◌, length, get_or, position, Some, Result, Ok, Err, refl, sym, ◌∙◌, ap, subst, arith, w64, to_z, of_z}
 use Rattle.std.specs.Int.Signed.{le_z}
-use Rattle.std.specs.Prelude.{ℤ, pos, negsuc, ◌+ℤ◌, ◌-ℤ◌, ◌≤ℤ◌, ◌<ℤ◌, slice_get, unsigned_abs, IsSomeAnd, is_some}
+use Rattle.std.specs.Prelude.{ℤ, pos, negsuc, ◌+ℤ◌, ◌-ℤ◌, ◌≤ℤ◌, ◌<ℤ◌, slice_get, unsigned_abs, IsSomeAnd, IfOk, is_some}
 use Rattle.std.specs.List.{position_or_len}
 use Rattle.std.proofs.lemmas.Int.{ints}
 use Rattle.std.proofs.lemmas.List.Quantifiers.{position-Some}
@@ -9,10 +9,12 @@ use Rattle.std.proofs.lemmas.List.{length-map}
 use Rattle.indexmap.specs.IndexMap.{insert_entry}
 use Rattle.std.specs.Map.{keys_of, values_of, lookup}
 use Rattle.tv_ring.specs.Operations.{Operations}
-use Rattle.tv_laws_series.specs.Terms.{Terms, upto}
+use Rattle.tv_ring.specs.Sums.{times}
+use Rattle.tv_laws_series.specs.Terms.{Terms, terms, listed, upto}
 use Rattle.tv_laws_series.proofs.Listed.{length-listed}
 use Rattle.tv_cells.specs.declared.legs.Legs.{Legs}
 use Rattle.tv_vertex.specs.Corners.{extras_times, corner_terms}
+use Rattle.tv_images.specs.Least.{HasCountsOf}
 use Rattle.tv_assigned_series.specs.Terms.{IsCornerFrom}
 use Rattle.tv_assigned_series.specs.Kept.{same, IsKept, AreKept, IsPlaceOf, Keeps, KeepsMore}
 use Rattle.tv_assigned_series.proofs.Inserted.{same-legs, each-insert, still-found}
@@ -91,6 +93,15 @@ module _ {A : Type 0} (r : Operations A) where
 
   pub none-there : (es : List (Legs × Terms A)) (legs : Legs) (k : ℕ) (t : Terms A) → false ≡ is_some (lookup (same legs) es) → lookup (same legs) es ≡ Some t → upto t <ℤ pos k
   none-there es legs k t none at = absurd (let e : false ≡ true = none ∙ ap is_some at in cc)
+
+-- an image with the counts of the legs has their series
+pub counted-terms : {A : Type 0} (r : Operations A) (legs image : Legs) (k : ℕ) → HasCountsOf legs image → corner_terms r image k ≡ corner_terms r legs k
+unfolding extras_times
+counted-terms r legs image k counts = λ i. terms (pos 0) (listed (λ n. times r (counts n i)) (suc k))
+
+pub place-counted : {A E : Type 0} (r : Operations A) (legs image : Legs) (k : ℕ) (es : List (Legs × Terms A)) (result : Result ℕ E) → HasCountsOf legs image → IfOk result (IsPlaceOf r image k es) → IfOk result (IsPlaceOf r legs k es)
+place-counted r legs image k es (Err fault) counts place = place
+place-counted r legs image k es (Ok i) counts place = (place.0, place.1, (place.2.0, place.2.1, place.2.2 ∙ counted-terms r legs image place.2.0 counts))
 
 pub read_back : (z : ℤ) → unsigned_abs z < 9223372036854775808 → to_z w64 (of_z w64 z) ≡ z
 read_back z h = omega (arith, ints)

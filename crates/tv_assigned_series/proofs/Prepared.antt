@@ -9,6 +9,7 @@ use Rattle.tv_laws_series.specs.Terms.{Terms}
 use Rattle.tv_spec_plane.specs.Web.{Web}
 use Rattle.tv_cells.specs.declared.legs.Legs.{Legs}
 use Rattle.tv_spec_boxes.specs.Assignments.{Assignment, all_legs, no_legs, edge_costs, overlaps_of}
+use Rattle.tv_images.specs.Least.{least}
 use Rattle.tv_assigned_series.specs.declared.asked.Most.{Most}
 use Rattle.tv_assigned_series.specs.Asked.{Asks, AsksMore, AsksFor, AsksForAll, KeepsAll}
 use Rattle.tv_assigned_series.specs.Kept.{same, Keeps, KeepsMore}
@@ -33,25 +34,25 @@ asks-fewer es q m k less asked = fewer (lookup (same q) es) asked
 
 -- the boxes are asked for at each of the first corners
 abbrev pub AsksUpTo : List Legs → ℕ → List (Legs × Most) → ℕ → Type 0
-AsksUpTo legs boxes es i = (j : ℕ) → j < i → (q : Legs) → get_or legs j q ≡ q → Asks q boxes es
+AsksUpTo legs boxes es i = (j : ℕ) → j < i → (q : Legs) → get_or legs j q ≡ q → Asks (least q) boxes es
 
-pub asks-next : (legs : List Legs) (boxes i : ℕ) (es new : List (Legs × Most)) (corner : Legs) → i < length legs → corner ≡ get_or legs i corner → AsksMore es new → Asks corner boxes new → AsksUpTo legs boxes es i → AsksUpTo legs boxes new (i + 1)
+pub asks-next : (legs : List Legs) (boxes i : ℕ) (es new : List (Legs × Most)) (corner : Legs) → i < length legs → corner ≡ get_or legs i corner → AsksMore es new → Asks (least corner) boxes new → AsksUpTo legs boxes es i → AsksUpTo legs boxes new (i + 1)
 asks-next legs boxes i es new corner within at more here before j h q is = elim (below-next j i h) [
-  | inl less ↦ more q boxes (before j less q is)
-  | inr one ↦ subst (λ l. Asks l boxes new) (get_or_read legs i corner within at q ∙ (ap (λ m. get_or legs m q) (sym one) ∙ is)) here
+  | inl less ↦ more (least q) boxes (before j less q is)
+  | inr one ↦ subst (λ l. Asks (least l) boxes new) (get_or_read legs i corner within at q ∙ (ap (λ m. get_or legs m q) (sym one) ∙ is)) here
 ]
 
 -- all boxes that are left are asked for at all corners
 pub asks-for : (w : Web) (n : ℤ) (a : Assignment) (es : List (Legs × Most)) (legs : List Legs) (start : ℤ) (left : ℕ) → legs ≡ all_legs w a (no_legs w) → start ≡ edge_costs w a -ℤ pos (overlaps_of legs) → start +ℤ pos left ≡ n → AsksUpTo legs left es (length legs) → AsksFor w n a es
 asks-for w n a es legs start left are begins ends each q k among far =
     let listed = subst (λ ls. Contains ls q) (sym are) among in
-    asks-fewer es q left k (within (edge_costs w a) (pos (overlaps_of (all_legs w a (no_legs w)))) (begins ∙ ap (λ ls. edge_costs w a -ℤ pos (overlaps_of ls)) are) far) (each listed.0 listed.1 q listed.2)
+    asks-fewer es (least q) left k (within (edge_costs w a) (pos (overlaps_of (all_legs w a (no_legs w)))) (begins ∙ ap (λ ls. edge_costs w a -ℤ pos (overlaps_of ls)) are) far) (each listed.0 listed.1 q listed.2)
   where
     within : (costs overlaps : ℤ) → start ≡ costs -ℤ overlaps → pos k ≤ℤ ((n -ℤ costs) +ℤ overlaps) → k ≤ left
     within costs overlaps e h = omega (arith, ints)
 
 pub still-all : (w : Web) (n : ℤ) (all : List Assignment) (es new : List (Legs × Most)) (k : ℕ) → AsksMore es new → AsksForAll w n all es k → AsksForAll w n all new k
-still-all w n all es new k more before j h q m among far = more q m (before j h q m among far)
+still-all w n all es new k more before j h q m among far = more (least q) m (before j h q m among far)
 
 -- assignment by assignment
 pub asks-one-more : (w : Web) (n : ℤ) (all : List Assignment) (es : List (Legs × Most)) (k : ℕ) → AsksFor w n (slice_index_or all k []) es → AsksForAll w n all es k → AsksForAll w n all es (k + 1)
@@ -96,8 +97,8 @@ module _ {A : Type 0} (r : Operations A) where
   ]
 
   pub kept-all : (w : Web) (n : ℤ) (all : List Assignment) (es : List (Legs × Most)) (ss : List (Legs × Terms A)) → AsksForAll w n all es (length all) → KeptUpTo es ss (length es) → KeepsAll r w n all ss
-  kept-all w n all es ss asks kept j h q k among far = found (lookup (same q) es) refl (asks j h q k among far)
+  kept-all w n all es ss asks kept j h q k among far = found (lookup (same (least q)) es) refl (asks j h q k among far)
     where
-      found : (o : Option Most) → lookup (same q) es ≡ o → IsSomeAnd o (λ m. k ≤ m.boxes) → Keeps r q k ss
+      found : (o : Option Most) → lookup (same (least q)) es ≡ o → IsSomeAnd o (λ m. k ≤ m.boxes) → Keeps r (least q) k ss
       found None e asked = absurd asked
-      found (Some m) e asked = let at = looked-up es q m e in keeps-fewer ss q m.boxes k asked (kept at.0 at.1 q m at.2)
+      found (Some m) e asked = let at = looked-up es (least q) m e in keeps-fewer ss (least q) m.boxes k asked (kept at.0 at.1 (least q) m at.2)

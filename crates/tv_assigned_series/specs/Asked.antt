@@ -1,13 +1,16 @@
 -- How far series of corners are asked for by the assignments of a list.
 --
--- IsAsked w n all legs most == the assignment most.by has a corner with these legs and at least most.boxes boxes left at n
--- AreAsked w n all es       == so it is for each entry of legs with what is asked for them
+-- IsAsked w n all image most == the assignment most.by has a corner of whose legs this is the least image, and at least
+--                              most.boxes boxes left at n
+-- AreAsked w n all es       == so it is for each entry of an image with what is asked for it
 -- IsRaised es legs most new == the entries stay, or have most at the legs
 -- Asks legs k es            == at least k boxes are asked for under these legs
 -- AsksMore es new           == new asks for what es asks for
--- AsksFor w n a es          == es asks for each number of boxes that is left at n at each corner of the assignment
+-- AsksFor w n a es          == es asks for each number of boxes that is left at n, under the least image of each corner of the
+--                              assignment
 -- AsksForAll w n all es k   == so it does for the first k assignments of the list
--- KeepsFor r w n a es       == the series of each corner of the assignment is kept through each number of boxes left at n
+-- KeepsFor r w n a es       == the series of each corner of the assignment is kept, under its least image, through each number
+--                              of boxes left at n
 -- KeepsAll r w n all es     == so it is for each assignment of the list
 -- IsWideAt r legs most fault == a fault that is Wide names most.by, and the legs' count at some number of boxes, at most
 --                              most.boxes, times the size of one, exceeds the limit
@@ -23,15 +26,19 @@ use Rattle.tv_cells.specs.declared.legs.Legs.{Legs}
 use Rattle.tv_cells.specs.Extras.{count}
 use Rattle.tv_spec_boxes.specs.Assignments.{Assignment, all_legs, no_legs}
 use Rattle.tv_spec_boxes.specs.Configurations.{boxes_left}
+use Rattle.tv_images.specs.Least.{least, HasCountsOf}
 use Rattle.tv_assigned_series.specs.declared.asked.Most.{Most}
 use Rattle.tv_assigned_series.specs.declared.fault.PrepareFault.{PrepareFault}
 use Rattle.tv_assigned_series.specs.declared.fault.PrepareFault.TheVariants.{Wide, Memory}
 use Rattle.tv_assigned_series.specs.Kept.{same, Keeps}
 use Rattle.tv_assigned_series.specs.Terms.{IsTooMany}
 
-pub record IsAsked (w : Web) (n : ℤ) (all : List Assignment) (legs : Legs) (most : Most) : Type 0 where
+pub record IsAsked (w : Web) (n : ℤ) (all : List Assignment) (image : Legs) (most : Most) : Type 0 where
   pub place : most.by < length all
-  pub corner : Contains (all_legs w (slice_index_or all most.by []) (no_legs w)) legs
+  pub corner : Legs
+  pub among : Contains (all_legs w (slice_index_or all most.by []) (no_legs w)) corner
+  pub least : image ≡ least corner
+  pub counts : HasCountsOf corner image
   pub few : most.boxes < 2 ^ 29
   pub left : pos most.boxes ≤ℤ boxes_left w (no_legs w) (slice_index_or all most.by []) n
 
@@ -48,13 +55,13 @@ abbrev pub AsksMore : List (Legs × Most) → List (Legs × Most) → Type 0
 AsksMore es new = (legs : Legs) (k : ℕ) → Asks legs k es → Asks legs k new
 
 abbrev pub AsksFor : Web → ℤ → Assignment → List (Legs × Most) → Type 0
-AsksFor w n a es = (legs : Legs) (k : ℕ) → Contains (all_legs w a (no_legs w)) legs → pos k ≤ℤ boxes_left w (no_legs w) a n → Asks legs k es
+AsksFor w n a es = (legs : Legs) (k : ℕ) → Contains (all_legs w a (no_legs w)) legs → pos k ≤ℤ boxes_left w (no_legs w) a n → Asks (least legs) k es
 
 abbrev pub AsksForAll : Web → ℤ → List Assignment → List (Legs × Most) → ℕ → Type 0
 AsksForAll w n all es k = (j : ℕ) → j < k → AsksFor w n (slice_index_or all j []) es
 
 abbrev pub KeepsFor : {A : Type 0} → Operations A → Web → ℤ → Assignment → List (Legs × Terms A) → Type 0
-KeepsFor r w n a es = (legs : Legs) (k : ℕ) → Contains (all_legs w a (no_legs w)) legs → pos k ≤ℤ boxes_left w (no_legs w) a n → Keeps r legs k es
+KeepsFor r w n a es = (legs : Legs) (k : ℕ) → Contains (all_legs w a (no_legs w)) legs → pos k ≤ℤ boxes_left w (no_legs w) a n → Keeps r (least legs) k es
 
 abbrev pub KeepsAll : {A : Type 0} → Operations A → Web → ℤ → List Assignment → List (Legs × Terms A) → Type 0
 KeepsAll r w n all es = (j : ℕ) → j < length all → KeepsFor r w n (slice_index_or all j []) es

@@ -1,4 +1,4 @@
--- Series that are kept by the legs of their corners.
+-- Series that are kept by legs: the least images of those of their corners.
 --
 -- same a b           == the legs are found equal
 -- IsKept r e         == the entry's series is that of the corner with its legs

@@ -13,7 +13,7 @@
 -- IsCornerBeyond r legs k   == so does the count of one of the corners at some number of boxes, at most k
 -- IsBeyond r legs k         == one or the other
 -- IsTooMany r w fixed n a   == IsBeyond of the corners of the assignment and some number of boxes, at most those left at n
-use Rattle.std.specs.Prelude.{◌≡◌, Contains, ℕ, suc, ◌+◌, ◌*◌, ◌<◌, ◌≤◌, ◌⊎◌, ℤ, pos, ◌+ℤ◌, ◌≤ℤ◌, List, take, cond, nat_eq}
+use Rattle.std.specs.Prelude.{◌≡◌, Contains, ℕ, suc, ◌*◌, ◌<◌, ◌≤◌, ◌⊎◌, ℤ, pos, ◌+ℤ◌, ◌≤ℤ◌, List, take, cond, nat_eq}
 use Rattle.std.specs.Int.{int_min}
 use Rattle.tv_ring.specs.Operations.{Operations, limit}
 use Rattle.tv_ring.specs.Sums.{at, times, whole_times}

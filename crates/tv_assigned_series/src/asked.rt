@@ -11,6 +11,7 @@ use std::alloc::{AllocError, AllocFailed, Global};
 use tv_assignment::{Assignment, all_legs, start_of};
 use tv_cells::legs::Legs;
 use tv_degrees::grade::GradedWeb;
+use tv_images::least_image;
 
 /// The greatest number of boxes that is asked for, and the number of an assignment that asks for it.
 #[derive(Drop)]
@@ -19,7 +20,8 @@ pub(crate) struct Most {
     pub(crate) by: usize,
 }
 
-/// What the assignments ask for together, for each triple of legs at a corner of one of them that does not start beyond `n`.
+/// What the assignments ask for together, for the least image of each triple of legs at a corner of one of them that does not
+/// start beyond `n`.
 pub(crate) fn asked_by(
     alloc: Global,
     web: &GradedWeb,
@@ -63,7 +65,8 @@ fn ask(
     }
     let boxes = boxes_left(start, n);
     for corner in &legs {
-        raise(asked, corner, Most { boxes, by: k })?;
+        let image = least_image(corner)?;
+        raise(asked, &image, Most { boxes, by: k })?;
     }
     Ok(())
 }

@@ -1,16 +1,18 @@
-//! The series of corners, kept by their three legs. One that is kept is computed anew only where more is asked for than it
-//! tells. Which corners a web has is not known here.
+//! The series of corners, kept by the least image of their legs: one series does for all six. One that is kept is computed
+//! anew only where more is asked for than it tells. Which corners a web has is not known here.
 
 ghost use Rattle.std.specs.Prelude.{◌≡◌, ◌<◌, ◌≤◌, ◌*◌, ◌^◌, ℕ, [], Some, length, slice_get, IfOk, IsErrOf, OnErr, OnOk};
 ghost use Rattle.std.specs.Map.{values_of};
 ghost use Rattle.tv_ring.specs.Operations.{limit};
 ghost use Rattle.tv_cells.specs.Extras.{count};
+ghost use Rattle.tv_images.specs.Least.{least};
 ghost use Rattle.tv_assigned_series.specs.Kept.{IsPlaceOf, Keeps, KeepsMore};
 
 use indexmap::IndexMap;
 use std::alloc::Global;
 use std::marker::Model;
 use tv_cells::legs::Legs;
+use tv_images::least_image;
 use tv_laurent::Series;
 use tv_ring::{Ring, RingFault};
 use tv_vertex::corner_series;
@@ -44,9 +46,29 @@ impl<C: Ring> Corners<C> {
         }
     }
 
-    /// The place of the series of the corner with these legs, known through `k` at least. It is computed where it is not kept
-    /// or known less far. On an error what is kept stays as it was.
+    /// The place of the series of the corner with these legs, known through `k` at least. It is that of their least image, and
+    /// is computed where it is not kept or known less far. On an error what is kept stays as it was.
     pub(crate) fn place_of(
+        &mut self,
+        alloc: Global,
+        legs: &Legs,
+        k: u32,
+    ) -> Result<usize, RingFault>
+        requires { k < 2 ^ 29 }
+        ensures value { IfOk result (λ i. IsPlaceOf C.ring legs.now k self.new i) }
+        ensures kept { OnOk result (Keeps C.ring (least legs.now) k self.new) }
+        ensures more { OnOk result (KeepsMore C.ring self.old self.new) }
+
+        // Wide only where one of the numbers through k, times the size of one, exceeds the limit.
+        ensures wide { IsErrOf result RingFault.Wide → (i : ℕ) × (i ≤ k) × (limit < count legs.now i * C.ring.size C.ring.unit) }
+        ensures err { OnErr result (self.new ≡ self.old) }
+    {
+        let image = least_image(legs)?;
+        self.place_under(alloc, &image, k)
+    }
+
+    /// The same of the series that is kept under the legs themselves.
+    pub(crate) fn place_under(
         &mut self,
         alloc: Global,
         legs: &Legs,

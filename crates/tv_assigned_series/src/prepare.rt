@@ -17,8 +17,8 @@ use tv_degrees::grade::GradedWeb;
 use tv_ring::Ring;
 
 impl<C: Ring> Corners<C> {
-    /// Computes the series of each triple of legs that a corner of these assignments has, with as many boxes as are left at
-    /// `n` to any assignment that has it, so that it need not be computed again.
+    /// Computes one series for each triple of legs that a corner of these assignments has and for its five other images, with
+    /// as many boxes as are left at `n` to any assignment that has one of them, so that it need not be computed again.
     pub fn prepare(
         &mut self,
         alloc: Global,
@@ -50,7 +50,7 @@ impl<C: Ring> Corners<C> {
         ensures more { OnOk result (KeepsMore C.ring self.old self.new) }
         ensures wide { IfErr result (IsWideAt C.ring legs.now most.now) }
     {
-        match self.place_of(alloc, legs, most.boxes) {
+        match self.place_under(alloc, legs, most.boxes) {
             Ok(_) => Ok(()),
             Err(fault) => Err(fault_by(fault, most.by)),
         }

@@ -116,6 +116,26 @@ fn keeps_what_is_known_farther(rt: HostRuntime) {
     );
 }
 
+fn one_leg(alloc: Global, along_x: &[u32], along_y: &[u32]) -> Result<Legs, Fail> {
+    Ok(Legs {
+        along_x: Diagram::new(along_x.to_vec(alloc)?).ok_or("a diagram")?,
+        along_y: Diagram::new(along_y.to_vec(alloc)?).ok_or("a diagram")?,
+        along_z: Diagram::empty(alloc),
+    })
+}
+
+#[test]
+fn keeps_one_series_for_images(rt: HostRuntime) -> Result<(), Fail> {
+    let legs = one_leg(rt.alloc(), &[2], &[])?;
+    let image = one_leg(rt.alloc(), &[], &[2])?;
+    let mut corners = Corners::new(rt.alloc());
+    assert!(rt;
+        is_kept(&mut corners, rt.alloc(), &legs, 3, 3)
+            && is_kept(&mut corners, rt.alloc(), &image, 1, 3)
+    );
+    Ok(())
+}
+
 // So for each of these legs.
 fn are_kept(corners: &mut Corners<Whole>, alloc: Global, all: &[Legs], upto: i64) -> bool {
     for legs in all {

@@ -1,6 +1,6 @@
 -- The first diagonal's table, and what is read off the last one's.
 use Rattle.std.proofs.Common.{◌≡◌, ℕ, zero, suc, ◌+◌, ◌-◌, ◌*◌, ◌<◌, ◌≤◌, max, ℤ, pos, neg_ℤ, ◌+ℤ◌, ◌-ℤ◌, ◌≤ℤ◌, unsigned_abs, Bool, true, false, List, [], ◌∷◌, ◌++◌, Option, Some, None, refl, sym, ◌∙◌, ap, subst, arith, inl, inr}
-use Rattle.std.specs.Prelude.{cond, ◌&&◌, nat_eq, nat_le, slice_index, MatchOption}
+use Rattle.std.specs.Prelude.{cond, ◌&&◌, nat_eq, nat_lt, nat_le, slice_index, MatchOption}
 use Rattle.std.specs.Map.{lookup}
 use Rattle.std.proofs.lemmas.Int.{ints}
 use Rattle.std.proofs.lemmas.Bool.{cases_Bool, ne_eqb}
@@ -23,7 +23,7 @@ use Rattle.tv_laws_slices.proofs.Least.{row-earlier}
 use Rattle.tv_laws_slices.proofs.Climb.{low-far}
 use Rattle.tv_laws_slices.proofs.Counted.{paths-are-counted}
 use Rattle.tv_slices.specs.declared.row.Row.{Row}
-use Rattle.tv_slices.specs.Rows.{numbers}
+use Rattle.tv_slices.specs.Rows.{numbers, marks}
 use Rattle.tv_slices.specs.Tables.{known, ways_to, HasRow, IsTable}
 use Rattle.tv_slices.specs.Joined.{counts_of}
 use Rattle.tv_slices.specs.Bare.{bare, at_start}
@@ -46,8 +46,8 @@ first_ways legs k t s c e =
     none = omega (arith, ints)
 
 pub first-table : {A : Type 0} (r : Operations A) (legs : Legs) (k : ℕ) (t : ℤ) (row : Row A) (rows : List (Shape × Row A)) → AreDiagrams legs → t ≡ neg_ℤ (pos (k + extent legs)) →
-    row.counts.items ≡ numbers r at_start (known legs k t (bare legs t)) → row.least ≡ 0 → rows ≡ (bare legs t, row) ∷ [] → IsTable r legs k t (ways_to legs k t) rows
-first-table {A} r legs k t row rows are at_t counts least is = subst (IsTable r legs k t (ways_to legs k t)) (sym is) (record {
+    row.counts.items ≡ numbers r at_start (known legs k t (bare legs t)) → row.reached.items ≡ marks at_start (known legs k t (bare legs t)) → row.least ≡ 0 → rows ≡ (bare legs t, row) ∷ [] → IsTable r legs k t (ways_to legs k t) rows
+first-table {A} r legs k t row rows are at_t counts reached least is = subst (IsTable r legs k t (ways_to legs k t)) (sym is) (record {
   each = λ s. decided s (same_shape s (bare legs t)) refl;
   suits = ((suits.0, few (extras_of legs t (bare legs t)) suits.1), tt);
 })
@@ -69,7 +69,7 @@ first-table {A} r legs k t row rows are at_t counts least is = subst (IsTable r 
         last false = refl
 
     has : HasRow r (ways_to legs k t (bare legs t)) (known legs k t (bare legs t)) row
-    has = row-same r at_start (ways_to legs k t (bare legs t)) (known legs k t (bare legs t)) row (λ c l. one c) (record { counts = counts; least = λ c l m. none c (at_start c ≡ 0) m })
+    has = row-same r at_start (ways_to legs k t (bare legs t)) (known legs k t (bare legs t)) row (λ c l. one c) (record { counts = counts; reached = reached; least = λ c l m. none c (at_start c ≡ 0) m })
 
     nothing : (s : Shape) (c : ℕ) (p : Bool) → same_shape s (bare legs t) ≡ false → fits legs t s ≡ p → cond p (ways_at legs k t s c) 0 ≡ 0
     nothing s c true off f = first_ways legs k t s c at_t ∙ (ap (λ q. cond (nat_eq c 0 && q) 1 0) (others-have legs t s are off f) ∙ both (nat_eq c 0))
@@ -184,3 +184,10 @@ numbers-none r f = listed-none (λ c. times r (f c))
 pub numbers_push : {A : Type 0} (r : Operations A) (f : ℕ → ℕ) (n : ℕ) (old new : List A) (x : A) → old ≡ numbers r f n → new ≡ old ++ x ∷ [] → x ≡ times r (f n) → new ≡ numbers r f (n + 1)
 unfolding numbers
 numbers_push r f n old new x before push e = listed_push (λ c. times r (f c)) n old new x before push e
+
+pub start-mark : (e : ℕ) → nat_eq e 0 ≡ nat_lt 0 (at_start e)
+start-mark e = by (nat_eq e 0)
+  where
+    by : (q : Bool) → q ≡ nat_lt 0 (cond q 1 0)
+    by true = refl
+    by false = refl

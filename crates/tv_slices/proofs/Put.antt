@@ -1,6 +1,6 @@
 -- What is put into a table.
 use Rattle.std.proofs.Common.{◌≡◌, ℕ, ◌+◌, ◌-◌, ◌*◌, ◌<◌, ◌≤◌, min, ℤ, Bool, true, false, List, [], ◌∷◌, Option, Some, None, refl, sym, ◌∙◌, ap, subst, arith, inl, inr}
-use Rattle.std.specs.Prelude.{cond, ◌&&◌, nat_le, MatchOption}
+use Rattle.std.specs.Prelude.{cond, ◌&&◌, nat_lt, nat_le, MatchOption}
 use Rattle.std.specs.List.{AllByRecursion}
 use Rattle.std.specs.Map.{lookup}
 use Rattle.std.proofs.lemmas.Bool.{cases_Bool, cases_lt, lt-leb, le-leb}
@@ -11,13 +11,13 @@ use Rattle.tv_cells.specs.declared.legs.Legs.{Legs}
 use Rattle.tv_spec_slices.specs.Slices.{Shape, fits, extras_of, same_shape}
 use Rattle.tv_laws_slices.proofs.Pushed.{same-shape, own-shape}
 use Rattle.tv_slices.specs.declared.row.Row.{Row}
-use Rattle.tv_slices.specs.Rows.{shifted, sums, numbers}
+use Rattle.tv_slices.specs.Rows.{shifted, sums, numbers, is_reached}
 use Rattle.tv_slices.specs.Tables.{known, HasRow, IsTable, given, Pushes, with_one, IsTooMany}
-use Rattle.tv_slices.specs.Joined.{counts_of, IsJoined}
-use Rattle.tv_slices.proofs.Numbers.{numbers-same, numbers-at, nothing-at, shifted-at, sums-numbers, sum-wide}
+use Rattle.tv_slices.specs.Joined.{counts_of, reached_of, IsJoined}
+use Rattle.tv_slices.proofs.Numbers.{numbers-same, numbers-at, nothing-at, shifted-at, sums-numbers, sum-wide, marks-same, marks-at, marks-shifted, marks-either}
 
 pub row-same : {A : Type 0} (r : Operations A) (f g : ℕ → ℕ) (n : ℕ) (row : Row A) → ((c : ℕ) → c < n → f c ≡ g c) → HasRow r f n row → HasRow r g n row
-row-same r f g n row each has = record { counts = has.counts ∙ numbers-same r f g n each; least = λ c l m. sym (each c l) ∙ has.least c l m }
+row-same r f g n row each has = record { counts = has.counts ∙ numbers-same r f g n each; reached = has.reached ∙ marks-same f g n each; least = λ c l m. sym (each c l) ∙ has.least c l m }
 
 module _ {A : Type 0} (r : Operations A) (legs : Legs) (k : ℕ) (t : ℤ) where
   -- one slice of a table
@@ -107,11 +107,23 @@ module _ {A : Type 0} {IsValue : A → Type 0} {r : Operations A} (laws : RingLa
       within : (e m : ℕ) → e < m → m ≤ n + extras_of legs t b → e < n + extras_of legs t b
       within e m l h = omega arith
 
+  first-marks : (o : Option (Row A)) → MatchOption o ((c : ℕ) → c < known legs k t b → g b c ≡ 0) (HasRow r (g b) (known legs k t b)) → (e : ℕ) → e < known legs k t b → is_reached (reached_of o) e ≡ nat_lt 0 (g b e)
+  first-marks None none e l = sym (ap (nat_lt 0) (none e l))
+  first-marks (Some v) has e l = marks-at (g b) (known legs k t b) v.reached.items e has.reached l
+
+  second-marks : (e : ℕ) → e < known legs k t b → (nat_le (extras_of legs t b) e && is_reached row.reached.items (e - extras_of legs t b)) ≡ nat_lt 0 (cond (nat_le (extras_of legs t b) e) (f (e - extras_of legs t b)) 0)
+  second-marks e l = marks-shifted f n row.reached.items (extras_of legs t b) e p.has.reached (within e (known legs k t b) l p.long)
+    where
+      within : (e m : ℕ) → e < m → m ≤ n + extras_of legs t b → e < n + extras_of legs t b
+      within e m l h = omega arith
+
   pub joined-row : (o : Option (Row A)) (new : Row A) → MatchOption o ((c : ℕ) → c < known legs k t b → g b c ≡ 0) (HasRow r (g b) (known legs k t b)) → IsJoined r o row (extras_of legs t b) (known legs k t b) new →
       HasRow r (with_one legs t f b g b) (known legs k t b) new
   joined-row o new at_b joined = record {
     counts = joined.counts ∙ (sums-numbers laws (counts_of o) row.counts.items (extras_of legs t b) (known legs k t b) (g b) (λ e. cond (nat_le (extras_of legs t b) e) (f (e - extras_of legs t b)) 0) (first-at o at_b) second-at
         ∙ numbers-same r (λ c. g b c + cond (nat_le (extras_of legs t b) c) (f (c - extras_of legs t b)) 0) (with_one legs t f b g b) (known legs k t b) (λ c l. sym (own r legs k t f b g c)));
+    reached = joined.reached ∙ (marks-either (reached_of o) row.reached.items (extras_of legs t b) (known legs k t b) (g b) (λ e. cond (nat_le (extras_of legs t b) e) (f (e - extras_of legs t b)) 0) (first-marks o at_b) second-marks
+        ∙ marks-same (λ c. g b c + cond (nat_le (extras_of legs t b) c) (f (c - extras_of legs t b)) 0) (with_one legs t f b g b) (known legs k t b) (λ c l. sym (own r legs k t f b g c)));
     least = λ c l m. own r legs k t f b g c ∙ low o at_b joined.least c l m;
   }
     where

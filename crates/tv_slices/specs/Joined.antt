@@ -1,17 +1,23 @@
 -- A row and what is pushed to it.
 --
 -- counts_of old       == its numbers, none where there is no row
+-- reached_of old      == its marks, none where there is no row
 -- IsJoined r old row x len new == new has both, and no lower cost than the least of both
-use Rattle.std.specs.Prelude.{◌≡◌, ℕ, ◌+◌, min, List, [], Option, None, Some, MatchOption}
+use Rattle.std.specs.Prelude.{◌≡◌, ℕ, ◌+◌, min, Bool, List, [], Option, None, Some, MatchOption}
 use Rattle.tv_ring.specs.Operations.{Operations}
 use Rattle.tv_laws_series.specs.Terms.{listed}
 use Rattle.tv_slices.specs.declared.row.Row.{Row}
-use Rattle.tv_slices.specs.Rows.{sums}
+use Rattle.tv_slices.specs.Rows.{sums, either_reached}
 
 abbrev pub counts_of : {A : Type 0} → Option (Row A) → List A
 counts_of None = []
 counts_of (Some row) = row.counts.items
 
+abbrev pub reached_of : {A : Type 0} → Option (Row A) → List Bool
+reached_of None = []
+reached_of (Some row) = row.reached.items
+
 pub record IsJoined {A : Type 0} (r : Operations A) (old : Option (Row A)) (row : Row A) (x len : ℕ) (new : Row A) : Type 0 where
   pub counts : new.counts.items ≡ listed (sums r (counts_of old) row.counts.items x) len
+  pub reached : new.reached.items ≡ listed (either_reached (reached_of old) row.reached.items x) len
   pub least : MatchOption old (new.least ≡ row.least + x) (λ o. new.least ≡ min o.least (row.least + x))

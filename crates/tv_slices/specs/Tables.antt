@@ -2,7 +2,8 @@
 --
 -- known legs k t s    == how many costs of s at t are kept: those that with the completion are at most k
 -- ways_to legs k t s c == the ways up to s at t with cost c, none where it doesn't fit
--- HasRow r f n row    == the row's numbers are f 0, .., f (n - 1), and those below its least cost are 0
+-- HasRow r f n row    == the row's numbers are f 0, .., f (n - 1), its marks tell which are above 0, and those below its least
+--                        cost are 0
 -- IsTable r legs k t f rows == each slice that has a row fits, has at most k extras and the row of f at it, and of each
 --                        other one f is 0 as far as it is kept
 -- given legs t f b x s c == what comes to s with cost c where the numbers f are pushed to b, which has x extras
@@ -15,7 +16,7 @@ use Rattle.tv_cells.specs.declared.legs.Legs.{Legs}
 use Rattle.tv_spec_slices.specs.Slices.{Shape, fits, extras_of, completion, same_shape}
 use Rattle.tv_spec_slices.specs.Paths.{ways_at, next_of}
 use Rattle.tv_slices.specs.declared.row.Row.{Row}
-use Rattle.tv_slices.specs.Rows.{numbers}
+use Rattle.tv_slices.specs.Rows.{numbers, marks}
 
 abbrev pub known : Legs → ℕ → ℤ → Shape → ℕ
 known legs k t s = suc k - completion legs t s
@@ -25,6 +26,7 @@ ways_to legs k t s c = cond (fits legs t s) (ways_at legs k t s c) 0
 
 pub record HasRow {A : Type 0} (r : Operations A) (f : ℕ → ℕ) (n : ℕ) (row : Row A) : Type 0 where
   pub counts : row.counts.items ≡ numbers r f n
+  pub reached : row.reached.items ≡ marks f n
   pub least : (c : ℕ) → c < n → c < row.least → f c ≡ 0
 
 pub record IsTable {A : Type 0} (r : Operations A) (legs : Legs) (k : ℕ) (t : ℤ) (f : Shape → ℕ → ℕ) (rows : List (Shape × Row A)) : Type 0 where

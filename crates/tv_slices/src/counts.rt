@@ -6,7 +6,7 @@ ghost use Rattle.tv_ring.specs.Operations.{limit};
 ghost use Rattle.tv_laws_series.specs.Terms.{listed};
 ghost use Rattle.tv_ring.specs.Sums.{at, times};
 ghost use Rattle.tv_cells.specs.Extras.{extent, count};
-ghost use Rattle.tv_slices.specs.Rows.{numbers};
+ghost use Rattle.tv_slices.specs.Rows.{numbers, marks};
 ghost use Rattle.tv_slices.specs.Joined.{counts_of};
 ghost use Rattle.tv_slices.specs.Bare.{at_start};
 ghost use Rattle.tv_slices.specs.Tables.{ways_to, IsTable};
@@ -15,7 +15,7 @@ use crate::bare::bare_slice;
 use crate::row::{Row, copy_at};
 use crate::table::{known, next_table};
 use indexmap::IndexMap;
-use std::alloc::Global;
+use std::alloc::{AllocError, Global};
 use tv_cells::legs::Legs;
 use tv_interlace::slice::Slice;
 use tv_ring::{Ring, RingFault};
@@ -57,7 +57,7 @@ fn last_table<C: Ring>(
 }
 
 /// The table of the first diagonal: the legs alone, in one way.
-fn first_table<C: Ring>(
+pub fn first_table<C: Ring>(
     alloc: Global,
     legs: &Legs,
     k: u32,
@@ -71,14 +71,21 @@ fn first_table<C: Ring>(
     legs.known();
     let _ = legs.extent();
     let bare = bare_slice(alloc, legs, diagonal_at(0, far))?;
-    let counts = first_counts(alloc, known(&bare, legs, k, diagonal_at(0, far)))?;
+    let len = known(&bare, legs, k, diagonal_at(0, far));
+    let counts = first_counts(alloc, len)?;
+    let reached = first_reached(alloc, len)?;
+    let row = Row {
+        least: 0,
+        counts,
+        reached,
+    };
     let mut table = IndexMap::new(alloc);
-    table.insert(bare, Row { least: 0, counts })?;
+    table.insert(bare, row)?;
     Ok(table)
 }
 
 /// Diagonal number i, of which the first is -far.
-fn diagonal_at(i: u32, far: u32) -> i32
+pub fn diagonal_at(i: u32, far: u32) -> i32
     requires near { i < 2 ^ 30 + 100 }
     requires few { far < 2 ^ 29 + 50 }
     ensures { result ≡ pos i -ℤ pos far }
@@ -96,6 +103,17 @@ fn first_counts<C: Ring>(alloc: Global, len: u32) -> Result<Vec<C>, RingFault>
         counts.push(start_at(alloc, e)?)?;
     }
     Ok(counts)
+}
+
+/// Only the cost 0 is reached.
+fn first_reached(alloc: Global, len: u32) -> Result<Vec<bool>, AllocError>
+    ensures { IfOk result (λ v. v.items ≡ marks at_start len) }
+{
+    let mut marks = Vec::new(alloc);
+    for e in 0..len {
+        marks.push(e == 0)?;
+    }
+    Ok(marks)
 }
 
 fn start_at<C: Ring>(alloc: Global, e: u32) -> Result<C, RingFault>

@@ -3,7 +3,7 @@
 #![tactic(auto)]
 
 pub mod bare;
-mod counts;
+pub mod counts;
 pub mod row;
 pub mod table;
 #[cfg(test)]

@@ -4,16 +4,17 @@ ghost use Rattle.std.specs.Prelude.{◌≡◌, ℕ, ◌+◌, ◌<◌, ◌≤◌,
 ghost use Rattle.tv_ring.specs.Operations.{limit};
 ghost use Rattle.tv_ring.specs.Sums.{at};
 ghost use Rattle.tv_laws_series.specs.Terms.{listed};
-ghost use Rattle.tv_slices.specs.Rows.{shifted, sums};
+ghost use Rattle.tv_slices.specs.Rows.{shifted, sums, is_reached, either_reached};
 
-use std::alloc::Global;
+use std::alloc::{AllocError, Global};
 use tv_ring::{Ring, RingFault};
 
-/// A cost below which there are no ways, and the numbers of ways of the costs from 0 on.
+/// A cost below which there are no ways, the numbers of ways of the costs from 0 on, and whether there are any of each cost.
 #[derive(Drop)]
 pub struct Row<C> {
     pub least: u32,
     pub counts: Vec<C>,
+    pub reached: Vec<bool>,
 }
 
 /// The numbers of ways of the first `len` costs: those before, and as many more that cost x more.
@@ -63,5 +64,38 @@ pub fn copy_at<C: Ring>(alloc: Global, xs: &[C], e: u32) -> Result<C, RingFault>
     match xs.get(e as usize) {
         Some(count) => count.copy(),
         None => C::zero(alloc),
+    }
+}
+
+/// Whether there are ways of the first `len` costs: those before, or of those that cost x more.
+pub fn either(
+    alloc: Global,
+    before: &[bool],
+    more: &[bool],
+    x: u32,
+    len: u32,
+) -> Result<Vec<bool>, AllocError>
+    ensures { IfOk result (λ v. v.items ≡ listed (either_reached before.now more.now x) len) }
+{
+    let mut all = Vec::new(alloc);
+    for e in 0..len {
+        all.push(is_either(before, more, x, e))?;
+    }
+    Ok(all)
+}
+
+fn is_either(before: &[bool], more: &[bool], x: u32, e: u32) -> bool
+    ensures { result ≡ either_reached before.now more.now x e }
+{
+    is_reached(before, e) || (x <= e && is_reached(more, e - x))
+}
+
+/// Whether that cost is marked; one past the last is not.
+pub fn is_reached(marks: &[bool], e: u32) -> bool
+    ensures { result ≡ is_reached marks.now e }
+{
+    match marks.get(e as usize) {
+        Some(mark) => *mark,
+        None => false,
     }
 }

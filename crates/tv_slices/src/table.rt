@@ -12,7 +12,7 @@ ghost use Rattle.tv_spec_slices.specs.Slices.{Shape, fits};
 ghost use Rattle.tv_spec_slices.specs.Paths.{ways_at};
 ghost use Rattle.tv_slices.specs.Tables.{known, ways_to, HasRow, IsTable, Pushes, with_one, with_slice, IsTooMany};
 
-use crate::row::{Row, added};
+use crate::row::{Row, added, either};
 use indexmap::IndexMap;
 use std::alloc::Global;
 use tv_cells::legs::Legs;
@@ -82,16 +82,26 @@ fn joined<C: Ring>(
                 x,
                 len,
             )?;
+            let reached = either(
+                alloc,
+                before.reached.as_slice(),
+                row.reached.as_slice(),
+                x,
+                len,
+            )?;
             Ok(Row {
                 least: before.least.min(row.least + x),
                 counts,
+                reached,
             })
         }
         None => {
             let counts = added(alloc, &[], row.counts.as_slice(), x, len)?;
+            let reached = either(alloc, &[], row.reached.as_slice(), x, len)?;
             Ok(Row {
                 least: row.least + x,
                 counts,
+                reached,
             })
         }
     }

@@ -1,6 +1,6 @@
 //! The series of one corner: how many sets of boxes stand beside its legs, by their number, over any ring. It knows no web
 //! and no edge. The series counts by slices (`tv_slices`); the plain count of one number (`listing`) decides the cells of a cube
-//! one by one, in their order, and leaves a choice of which no extras can come.
+//! one by one, in their order, and leaves a choice of which no extras can come. `Slices` lists the ways up to each slice.
 #![tactic(auto)]
 
 mod corner;
@@ -11,3 +11,5 @@ pub mod listing;
 mod tests;
 
 pub use corner::corner_series;
+pub use tv_paths::Slices;
+pub use tv_paths::counts::PathCount;

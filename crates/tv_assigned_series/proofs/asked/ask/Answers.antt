@@ -3,7 +3,7 @@ use Rattle.std.specs.Prelude.{pos, ◌-ℤ◌}
 use Rattle.std.proofs.lemmas.Int.{to_z-of_z}
 use Rattle.std.proofs.lemmas.List.{get_or_read}
 use Rattle.tv_spec_boxes.specs.Assignments.{edge_costs, overlaps_of}
-use Rattle.tv_assigned_series.specs.Asked.{AsksFor}
+use Rattle.tv_assigned_series.specs.Asked.{Asks, AsksFor}
 use Rattle.tv_assigned_series.proofs.Asking.{asks, still-asked}
 use Rattle.tv_assigned_series.proofs.Prepared.{still-all, asks-next, asks-for, asks-one-more}
 use Rattle.tv_assigned_series.proofs.Assembled.{read_left}
@@ -16,12 +16,12 @@ loop-corner-preserved c =
     let read = get_or_read all c.args.k a c.requires.place c.index-all-k.is [] in
     let begins = c.start_of-start.ensures.value ∙ ap (λ ls. edge_costs w a -ℤ pos (overlaps_of ls)) (c.deref.ensures.value ∙ sym c.deref-corner-items.ensures.value) in
     let ends = read_left c.args.n start c.boxes_left-boxes.result c.requires.exponent c.start_of-start.ensures.bound c.boxes_left-boxes.ensures.value in
-    let here = asks w c.args.n all c.args.k a legs c.corner-item.result c.loop-corner.corner-index start c.boxes_left-boxes.result c.requires.place read (c.deref-corner-items.ensures.value ∙ c.in_ok-legs.ensures.legs) c.loop-corner-test.true c.corner-item.is begins ends c.boxes_left-boxes.ensures.few in
+    let here = asks w c.args.n all c.args.k a legs c.corner-item.result c.loop-corner.corner-index start c.boxes_left-boxes.result c.requires.place read (c.deref-corner-items.ensures.value ∙ c.in_ok-legs.ensures.legs) c.loop-corner-test.true c.corner-item.is begins ends c.boxes_left-boxes.ensures.few c.in_ok-image.image c.in_ok-image.ensures.value c.in_ok-image.ensures.counts in
     let before = rw (to_z-of_z w64 c.args.n c.ranges.n) at c.loop-corner.invariant in
     rw (to_z-of_z w64 c.args.n c.ranges.n) (
-      still-asked w c.args.n all c.loop-corner.asked.entries c.raise.new.asked.entries c.corner-item.result _ here c.in_ok-raise.ensures.raised before.0,
+      still-asked w c.args.n all c.loop-corner.asked.entries c.raise.new.asked.entries c.in_ok-image.image _ here c.in_ok-raise.ensures.raised before.0,
       still-all w c.args.n all c.loop-corner.asked.entries c.raise.new.asked.entries c.args.k c.in_ok-raise.ensures.more before.1,
-      asks-next legs c.boxes_left-boxes.result c.loop-corner.corner-index c.loop-corner.asked.entries c.raise.new.asked.entries c.corner-item.result c.loop-corner-test.true c.corner-item.is c.in_ok-raise.ensures.more c.in_ok-raise.ensures.reached before.2,
+      asks-next legs c.boxes_left-boxes.result c.loop-corner.corner-index c.loop-corner.asked.entries c.raise.new.asked.entries c.corner-item.result c.loop-corner-test.true c.corner-item.is c.in_ok-raise.ensures.more (subst (λ l. Asks l c.boxes_left-boxes.result c.raise.new.asked.entries) c.in_ok-image.ensures.value c.in_ok-raise.ensures.reached) before.2,
     )
 
 pub returns-clause-all : goal.returns-clause-all

@@ -1,7 +1,8 @@
 use Rattle.std.proofs.Common.{◌≡◌, ℤ, pos, ◌-ℤ◌, [], ◌∷◌, SFits, w32, to_z, of_z, refl, sym, ◌∙◌, ap, arith}
 use Rattle.std.proofs.lemmas.Int.{ints, to_z-of_z}
 use Rattle.indexmap.specs.IndexMap.{insert_entry}
-use Rattle.tv_slices.specs.Rows.{numbers}
+use Rattle.tv_slices.specs.declared.row.Row.{Row}
+use Rattle.tv_slices.specs.Rows.{numbers, marks}
 use Rattle.tv_slices.specs.Bare.{bare, at_start}
 use Rattle.tv_slices.specs.Tables.{known}
 use Rattle.tv_slices.proofs.Ends.{first-table}
@@ -15,6 +16,7 @@ returns-clause-value g c =
     let one : to_z w32 (of_z w32 c.diagonal_at.result) ≡ t = omega (arith, ints, c.diagonal_at.ensures) in
     let two : to_z w32 (of_z w32 c.diagonal_at-2.result) ≡ t = omega (arith, ints, c.diagonal_at-2.ensures) in
     let b : c.in_ok-bare.bare ≡ bare legs t = c.in_ok-bare.ensures ∙ ap (bare legs) one in
-    let counts = c.in_ok-counts.ensures.value ∙ ap (numbers r at_start) (c.known-2.ensures.value ∙ (ap (λ u. known legs k u c.in_ok-bare.bare) two ∙ ap (known legs k t) b)) in
-    first-table r legs k t (record { least = 0; counts = c.in_ok-counts.counts }) c.insert.new.self.entries c.known.ensures.diagrams (omega (arith, ints, c.requires.far)) counts refl
-    (c.in_ok-insert.ensures.entries ∙ (ap (λ es. insert_entry same_shape es c.in_ok-bare.bare (record { least = 0; counts = c.in_ok-counts.counts })) c.new-table.ensures.empty ∙ ap (λ x. (x, record { least = 0; counts = c.in_ok-counts.counts }) ∷ []) b))
+    let len = c.known-len.ensures.value ∙ (ap (λ u. known legs k u c.in_ok-bare.bare) two ∙ ap (known legs k t) b) in
+    let row : Row g.row.C.Denot = record { least = 0; counts = c.in_ok-counts.counts; reached = c.in_ok-reached.reached } in
+    first-table r legs k t row c.insert.new.self.entries c.known.ensures.diagrams (omega (arith, ints, c.requires.far)) (c.in_ok-counts.ensures.value ∙ ap (numbers r at_start) len) (c.in_ok-reached.ensures ∙ ap (marks at_start) len) refl
+    (c.in_ok-insert.ensures.entries ∙ (ap (λ es. insert_entry same_shape es c.in_ok-bare.bare row) c.new-table.ensures.empty ∙ ap (λ x. (x, row) ∷ []) b))

@@ -1,0 +1,4 @@
+pub mod Behind
+pub mod Ordered
+pub mod Entries
+pub mod Diagonals
