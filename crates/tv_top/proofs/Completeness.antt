@@ -1,5 +1,5 @@
 -- Completeness follows from the answers: what is accepted isn't refused, and what is a command has no place outside.
-use Rattle.std.proofs.Common.{◌≡◌, ◌⊎◌, inl, inr, ℕ, ◌≤◌, ℤ, pos, List, [], ◌∷◌, ◌++◌, length, Bool, true, false, Option, Some, None, refl, ap, sym, ◌∙◌, arith, subst, length-append, append-nil}
+use Rattle.std.proofs.Common.{◌≡◌, ◌⊎◌, inl, inr, ℕ, ◌≤◌, ℤ, List, ◌++◌, length, Option, Some, None, refl, ap, sym, ◌∙◌, arith, subst, length-append, append-nil}
 use Rattle.std.specs.Io.KnownBytes.{Consumes, IsAtEnd}
 use Rattle.std.proofs.lemmas.Int.{ints}
 use Rattle.tv_spec_plane.specs.Web.{Web}
@@ -7,7 +7,6 @@ use Rattle.tv_spec_text.specs.Lines.{Word, Line as TextLine}
 use Rattle.tv_spec_text.specs.Places.{IsPlace}
 use Rattle.tv_spec_text.proofs.Places.{IsPlace-none}
 use Rattle.tv_spec_json.specs.Files.{is_json}
-use Rattle.tv_spec_plane.specs.declared.limits.TheConstants.{MOST_BYTES}
 use Rattle.tv_lattice.specs.declared.fault.FileFault.{FileFault}
 use Rattle.tv_lattice.specs.declared.fault.FileFault.TheVariants.{TooLong, Line, Json, TooMany, Repeated, Index, Flat, Area, Twice, Unmatched, Bare, HeightCount, Degree}
 use Rattle.tv_lattice.specs.Limits.{IsWithinLimits}
@@ -15,17 +14,13 @@ use Rattle.tv_triangulation.specs.Triangulated.{IsTiled}
 use Rattle.tv_triangulation.proofs.Accepted.{tiling_triangles_pass}
 use Rattle.tv_spec_plane.specs.Graded.{IsGraded}
 use Rattle.tv_outside.specs.Faults.{Rose, RoseOnce}
-use Rattle.tv_text.specs.declared.series.Kind.{Kind}
-use Rattle.tv_text.specs.declared.series.Kind.TheVariants.{Full, Reduced}
-use Rattle.tv_text.specs.Sections.{kind_word}
-use Rattle.tv_top.specs.Commands.{IsSide, IsDegree, IsOrder, IsSeries, IsGenerate, IsSummaryOf, IsCommand, Asks, side_of}
+use Rattle.tv_top.specs.Commands.{IsCommand, Asks, side_of}
 use Rattle.tv_top.specs.Acceptance.{turned_web, IsFile, IsAccepted, IsUnsoundBy}
 use Rattle.tv_top.specs.Reports.{IsReport, IsWide, IsDiffers, IsUnsuited}
 use Rattle.tv_top.specs.Boxes.{Suits, IsUnsuitedAt}
 use Rattle.tv_top.specs.Rejections.{FaultOf}
 use Rattle.tv_top.specs.Answers.{Change, Gave, IsOver, IsOn, Deserves, DeservesFile, Told, Answers}
 use Rattle.tv_top.specs.Completeness.{Completes, IsGiven}
-use Rattle.tv_top.specs.declared.command.TheConstants.{MIN_SIDE, MAX_SIDE, MAX_DEGREE, MIN_ORDER, MAX_ORDER}
 use Rattle.tv_top.specs.declared.command.Command.{Command}
 use Rattle.tv_top.specs.declared.command.Command.TheVariants.{Check, Series, Gv, Boxes, Generate, Summary}
 use Rattle.tv_top.specs.declared.status.Status.{Status}

@@ -1,5 +1,5 @@
 -- Where words leave the word lists.
-use Rattle.std.proofs.Common.{◌≡◌, ◌≢◌, ℕ, ◌+◌, zero, suc, ℤ, pos, List, [], ◌∷◌, ◌++◌, length, map, get_or, false, ◌==◌, refl, ap, sym, ◌∙◌, subst, arith, append-nil}
+use Rattle.std.proofs.Common.{◌≡◌, ◌≢◌, ℕ, ◌+◌, suc, ℤ, pos, List, [], ◌∷◌, ◌++◌, length, map, get_or, false, ◌==◌, refl, ap, sym, ◌∙◌, subst, arith, append-nil}
 use Rattle.std.proofs.lemmas.List.{length-map}
 use Rattle.std.proofs.lemmas.Int.{ints}
 use Rattle.std.specs.List.{AllByRecursion}
@@ -8,7 +8,7 @@ use Rattle.tv_spec_text.specs.Places.{Begins, IsPlace}
 use Rattle.tv_text.specs.declared.series.Kind.{Kind}
 use Rattle.tv_text.specs.declared.series.Kind.TheVariants.{Full}
 use Rattle.tv_text.specs.Sections.{kind_word}
-use Rattle.tv_top.specs.Commands.{IsSide, IsDegree, IsOrder, IsIntegersOrder, IsSeries, IsGv, IsBoxes, IsGenerate, IsSummaryOf, IsCommand, Asks, name_word, series_words, gv_words, boxes_words, generate_words, summary_words}
+use Rattle.tv_top.specs.Commands.{IsSide, IsDegree, IsOrder, IsIntegersOrder, IsSeries, IsBoxes, IsSummaryOf, IsCommand, Asks, name_word, series_words, gv_words, boxes_words, generate_words, summary_words}
 use Rattle.tv_top.specs.Entries.{SpellEntries, LeavesEntries}
 use Rattle.tv_top.specs.declared.command.Name.{Name}
 use Rattle.tv_top.specs.declared.command.Name.TheVariants.{Check as CheckName, Series as SeriesName, Gv as GvName, Boxes as BoxesName, Generate as GenerateName, Summary as SummaryName}

@@ -8,7 +8,7 @@
 -- IsTold c w out result    == some status and text were told that the command deserves over this web
 -- Steps w now then out step == the first configuration that was to come was told, and the others are still to come; or the
 --                             telling is finished
-use Rattle.std.specs.Prelude.{◌≡◌, ◌⊎◌, ℕ, ◌+◌, ◌≤◌, ℤ, List, [], ◌∷◌, ◌++◌, length, take, codes}
+use Rattle.std.specs.Prelude.{◌≡◌, ℕ, ◌+◌, ◌≤◌, List, [], ◌∷◌, ◌++◌, length, take, codes}
 use Rattle.std.specs.List.{flat_map}
 use Rattle.std.specs.Io.KnownBytes.{Appends}
 use Rattle.tv_spec_plane.specs.Web.{Web}
