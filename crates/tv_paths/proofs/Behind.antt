@@ -1,19 +1,16 @@
 -- The columns that are listed, by the height of the first one from the greatest down, and by the number of extras.
-use Rattle.std.proofs.Common.{◌≡◌, ℕ, zero, suc, ◌+◌, ◌-◌, ◌<◌, ◌≤◌, ℤ, Bool, true, false, cond, ◌&&◌, ◌||◌, nat_lt, nat_le, nat_eq, List, [], ◌∷◌, ◌++◌, map, length, take, get_or, arith, refl, sym, ◌∙◌, ap, subst, append_assoc, append-nil, inl, inr}
+use Rattle.std.proofs.Common.{◌≡◌, ℕ, zero, suc, ◌+◌, ◌-◌, ◌<◌, ◌≤◌, ℤ, Bool, true, false, cond, ◌&&◌, ◌||◌, nat_lt, nat_le, nat_eq, List, [], ◌∷◌, ◌++◌, map, length, arith, refl, sym, ◌∙◌, ap, append_assoc, append-nil, inl, inr}
 use Rattle.std.specs.Prelude.{filter, slice_index}
-use Rattle.std.specs.List.{flat_map, list_any, range_with_len, AllByRecursion}
-use Rattle.std.proofs.lemmas.List.Elements.{filter-append}
+use Rattle.std.specs.List.{flat_map}
 use Rattle.std.proofs.lemmas.Bool.{cases_Bool}
 use Rattle.std.proofs.lemmas.Bool.Decides.{nat_tests}
-use Rattle.tv_lemmas.proofs.Lists.{flat_map-filter, flat_map-same, filter-none, filter-same_on, filter-flat_map}
-use Rattle.tv_cells.proofs.Diagonals.{numbers-next, numbers-none}
+use Rattle.tv_lemmas.proofs.Lists.{flat_map-filter, flat_map-same, filter-none}
 use Rattle.tv_cells.specs.declared.legs.Legs.{Legs}
-use Rattle.tv_cells.specs.Extras.{bit, extent, AreDiagrams}
-use Rattle.tv_spec_slices.specs.Slices.{Shape, at, base_at, fits, extras_of, same_shape}
-use Rattle.tv_spec_slices.specs.Paths.{columns, down, shape, full_of, fitting_by, fitting}
+use Rattle.tv_spec_slices.specs.Slices.{Shape, at, base_at, same_shape}
+use Rattle.tv_spec_slices.specs.Paths.{columns, down, shape}
 use Rattle.tv_interlace.specs.Columns.{longer, firsts}
-use Rattle.tv_laws_slices.proofs.Pushed.{same-shape, own-shape}
-use Rattle.tv_paths.specs.Among.{is_among, has_height, has_extras, behind, one_more}
+use Rattle.tv_laws_slices.proofs.Pushed.{same-shape}
+use Rattle.tv_paths.specs.Among.{is_among, has_height, behind, one_more}
 
 -- ---- among the keys
 

@@ -1,11 +1,10 @@
 -- The rows of the diagonals, as they are put together and read.
-use Rattle.std.proofs.Common.{◌≡◌, ℕ, zero, suc, ◌+◌, ◌*◌, ◌<◌, ◌≤◌, ◌^◌, ℤ, pos, neg_ℤ, ◌-ℤ◌, ◌+ℤ◌, ◌<ℤ◌, unsigned_abs, List, [], ◌∷◌, ◌++◌, map, length, get_or, arith, refl, sym, ◌∙◌, ap, subst}
+use Rattle.std.proofs.Common.{◌≡◌, ℕ, zero, suc, ◌+◌, ◌*◌, ◌<◌, ℤ, pos, ◌-ℤ◌, ◌<ℤ◌, List, [], ◌∷◌, ◌++◌, map, length, get_or, arith, sym, ◌∙◌, ap}
 use Rattle.std.specs.List.{range_with_len}
 use Rattle.std.proofs.lemmas.Int.{ints}
 use Rattle.std.proofs.lemmas.List.{length-map}
 use Rattle.tv_laws_series.specs.Terms.{listed}
 use Rattle.tv_laws_series.proofs.Listed.{length-listed, listed-none, listed_push}
-use Rattle.tv_paths.specs.Built.{nearest}
 use Rattle.tv_paths.proofs.Entries.{map-joined}
 
 pub before-end : (d : ℤ) (i k e x : ℕ) → d ≡ pos i -ℤ pos (k + x) → x ≡ e → i < 2 * (k + x) → d <ℤ pos (k + e)
@@ -38,6 +37,3 @@ module _ {V B : Type 0} (items : V → B) (g : ℕ → B) where
 
   pub row-long : (n : ℕ) (xs : List V) → map items xs ≡ listed g n → length xs ≡ n
   row-long n xs is = sym (length-map xs items) ∙ (ap length is ∙ length-listed g n)
-
-pub nearest-within : (far : ℕ) (t : ℤ) → unsigned_abs t ≤ far → nearest far t ≡ t
-nearest-within far t l = grind (arith, ints)

@@ -1,9 +1,9 @@
 -- The entries of a diagonal are what the rows of its table tell.
-use Rattle.std.proofs.Common.{◌≡◌, ℕ, zero, suc, ◌+◌, ◌-◌, ◌<◌, ◌≤◌, ℤ, Bool, true, false, cond, ◌&&◌, ◌||◌, nat_lt, nat_le, List, [], ◌∷◌, ◌++◌, map, length, take, get_or, Option, Some, None, arith, refl, sym, ◌∙◌, ap, subst, append_assoc, append-nil, inl, inr}
+use Rattle.std.proofs.Common.{◌≡◌, ℕ, zero, suc, ◌+◌, ◌-◌, ◌<◌, ◌≤◌, ℤ, Bool, true, false, cond, ◌&&◌, ◌||◌, nat_lt, nat_le, List, [], ◌∷◌, ◌++◌, map, length, take, get_or, Option, Some, None, arith, refl, sym, ◌∙◌, ap, subst, append_assoc, append-nil}
 use Rattle.std.specs.Prelude.{filter, slice_get, MatchOption}
 use Rattle.std.specs.List.{flat_map, range_with_len}
 use Rattle.std.specs.Map.{lookup, keys_of}
-use Rattle.std.proofs.lemmas.Bool.{cases_Bool, le-leb, lt-leb}
+use Rattle.std.proofs.lemmas.Bool.{le-leb, lt-leb}
 use Rattle.std.proofs.lemmas.List.Concat.{flat_map-append}
 use Rattle.tv_lemmas.proofs.Lists.{flat_map-filter, flat_map-same, flat_map-none}
 use Rattle.tv_ring.specs.Operations.{Operations}
@@ -11,7 +11,7 @@ use Rattle.tv_ring.specs.Sums.{at, times}
 use Rattle.tv_cells.specs.declared.legs.Legs.{Legs}
 use Rattle.tv_cells.specs.Cells.{below}
 use Rattle.tv_spec_slices.specs.Slices.{Shape, fits, completion, same_shape}
-use Rattle.tv_spec_slices.specs.Paths.{fitting, ways_at, is_entry, entries}
+use Rattle.tv_spec_slices.specs.Paths.{fitting, ways_at, is_entry}
 use Rattle.tv_slices.specs.declared.row.Row.{Row}
 use Rattle.tv_slices.specs.Rows.{is_reached}
 use Rattle.tv_slices.specs.Tables.{known, ways_to, HasRow, IsTable}
@@ -32,7 +32,7 @@ next-cost F a (suc n) =
 below-next : {A : Type 0} (F : ℕ → List A) (n : ℕ) → flat_map F (below (suc n)) ≡ flat_map F (below n) ++ F n
 below-next F n = let z : 0 + n ≡ n = omega arith in next-cost F 0 n ∙ ap (λ i. flat_map F (below n) ++ F i) z
 
-costs-same : {A : Type 0} (F G : ℕ → List A) (a n : ℕ) → ((c : ℕ) → c < a + n → F c ≡ G c) → flat_map F (range_with_len a n) ≡ flat_map G (range_with_len a n)
+pub costs-same : {A : Type 0} (F G : ℕ → List A) (a n : ℕ) → ((c : ℕ) → c < a + n → F c ≡ G c) → flat_map F (range_with_len a n) ≡ flat_map G (range_with_len a n)
 costs-same F G a zero same = refl
 costs-same F G a (suc n) same = ap (λ xs. xs ++ flat_map F (range_with_len (a + 1) n)) (same a (omega arith)) ∙ ap (λ ss. G a ++ ss) (costs-same F G (a + 1) n (λ c l. same c (omega arith)))
 
@@ -44,10 +44,10 @@ costs-cut F n (suc j) none =
 
 -- ---- one slice
 
-pub counts_of : {A : Type 0} → Operations A → Legs → ℕ → ℤ → Shape → List (PathCount A)
+unfoldable pub counts_of : {A : Type 0} → Operations A → Legs → ℕ → ℤ → Shape → List (PathCount A)
 counts_of r legs k t s = map (path_count r legs k t) (map (λ c. (s, c)) (filter (is_entry legs k t s) (below (suc k))))
 
-mapped : {A B : Type 0} (f : A → B) (p : ℕ → Bool) (g : ℕ → A) (cs : List ℕ) → map f (map g (filter p cs)) ≡ flat_map (λ c. cond (p c) (f (g c) ∷ []) []) cs
+pub mapped : {A B : Type 0} (f : A → B) (p : ℕ → Bool) (g : ℕ → A) (cs : List ℕ) → map f (map g (filter p cs)) ≡ flat_map (λ c. cond (p c) (f (g c) ∷ []) []) cs
 mapped f p g [] = refl
 mapped f p g (c ∷ cs) = step (p c) (mapped f p g cs)
   where
@@ -143,7 +143,7 @@ pub map-joined : {B C : Type 0} (f : B → C) (ys zs : List B) → map f (ys ++ 
 map-joined f [] zs = refl
 map-joined f (y ∷ ys) zs = ap (λ ss. f y ∷ ss) (map-joined f ys zs)
 
-map-flat_map : {A B C : Type 0} (f : B → C) (g : A → List B) (xs : List A) → map f (flat_map g xs) ≡ flat_map (λ x. map f (g x)) xs
+pub map-flat_map : {A B C : Type 0} (f : B → C) (g : A → List B) (xs : List A) → map f (flat_map g xs) ≡ flat_map (λ x. map f (g x)) xs
 map-flat_map f g [] = refl
 map-flat_map f g (x ∷ xs) = map-joined f (g x) (flat_map g xs) ∙ ap (λ ss. map f (g x) ++ ss) (map-flat_map f g xs)
 

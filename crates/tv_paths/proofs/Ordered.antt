@@ -1,5 +1,5 @@
 -- The slices among the keys, by the number of their extras: what is listed and what is left make the whole.
-use Rattle.std.proofs.Common.{◌≡◌, ℕ, suc, ◌+◌, ◌-◌, ◌<◌, ℤ, Bool, true, false, ◌&&◌, nat_eq, List, [], ◌++◌, map, arith, refl, sym, ◌∙◌, ap, append_assoc, append-nil}
+use Rattle.std.proofs.Common.{◌≡◌, ℕ, suc, ◌+◌, ◌-◌, ◌<◌, ℤ, Bool, true, false, ◌&&◌, List, [], ◌++◌, map, arith, refl, sym, ◌∙◌, ap, append_assoc, append-nil}
 use Rattle.std.specs.Prelude.{filter}
 use Rattle.std.specs.List.{flat_map, range_with_len, AllByRecursion}
 use Rattle.std.proofs.lemmas.List.Elements.{filter-append}
@@ -8,7 +8,7 @@ use Rattle.tv_lemmas.proofs.Members.{all-found}
 use Rattle.tv_cells.proofs.Diagonals.{numbers-next, numbers-none}
 use Rattle.tv_cells.specs.declared.legs.Legs.{Legs}
 use Rattle.tv_cells.specs.Extras.{bit, extent, AreDiagrams}
-use Rattle.tv_spec_slices.specs.Slices.{Shape, base_at, fits, extras_of, same_shape}
+use Rattle.tv_spec_slices.specs.Slices.{Shape, base_at, fits, same_shape}
 use Rattle.tv_spec_slices.specs.Paths.{columns, shape, full_of, fitting_by, fitting}
 use Rattle.tv_laws_slices.proofs.Once.{once-by}
 use Rattle.tv_laws_slices.proofs.Pushed.{own-shape, listed-often}
@@ -19,7 +19,7 @@ use Rattle.tv_paths.proofs.Behind.{narrowed}
 pub left_from : List Shape → Legs → ℤ → ℕ → ℕ → List Shape
 left_from keys legs t k n = filter (is_among keys) (flat_map (fitting_by legs t) (range_with_len k (n - k)))
 
-by-extras : (legs : Legs) (t : ℤ) (m : ℕ) → AreDiagrams legs → AllByRecursion (λ s. has_extras legs t m s ≡ true) (fitting_by legs t m)
+pub by-extras : (legs : Legs) (t : ℤ) (m : ℕ) → AreDiagrams legs → AllByRecursion (λ s. has_extras legs t m s ≡ true) (fitting_by legs t m)
 by-extras legs t m are = all-found (λ s. has_extras legs t m s ≡ true) same_shape own-shape (fitting_by legs t m) (λ s h. by_test s (fits legs t s) (has_extras legs t m s) refl (listed-often s (fitting_by legs t m) h) (once-by legs t m s are))
   where
     by_test : {n : ℕ} (s : Shape) (p q : Bool) → has_extras legs t m s ≡ q → (n ≡ 0 → ⊥) → n ≡ bit (p && q) → has_extras legs t m s ≡ true

@@ -5,7 +5,7 @@
 -- IsBuilt r legs k far rows == far is the last diagonal on which a box can stand, and the rows are the entries of those from
 --                     -far to far
 -- nearest far t    == the nearest diagonal from -far to far
-use Rattle.std.specs.Prelude.{◌≡◌, ℕ, suc, ◌+◌, ◌*◌, ◌<◌, ◌^◌, ℤ, pos, neg_ℤ, ◌-ℤ◌, cond, int_lt, List}
+use Rattle.std.specs.Prelude.{◌≡◌, ℕ, ◌+◌, ◌*◌, ◌<◌, ◌^◌, ℤ, pos, neg_ℤ, ◌-ℤ◌, cond, int_lt, List}
 use Rattle.tv_ring.specs.Operations.{Operations}
 use Rattle.tv_laws_series.specs.Terms.{listed}
 use Rattle.tv_cells.specs.declared.legs.Legs.{Legs}

@@ -101,9 +101,7 @@ fn push_longer(
     let mut more = extras + 1;
     while more > 0 {
         more -= 1;
-        push_height(
-            all, front, keys, legs, t, full, left, top, extras, more,
-        )?;
+        push_height(all, front, keys, legs, t, full, left, top, extras, more)?;
     }
     Ok(())
 }
@@ -194,12 +192,7 @@ fn is_among(keys: &[Slice], slice: &Slice) -> bool
 }
 
 /// The keys with that height at place d.
-fn with_height(
-    alloc: Global,
-    keys: &[Slice],
-    d: u32,
-    height: u32,
-) -> Result<Vec<Slice>, AllocError>
+fn with_height(alloc: Global, keys: &[Slice], d: u32, height: u32) -> Result<Vec<Slice>, AllocError>
     ensures { IfOk result (λ some. some.items ≡ filter (has_height d height) keys.now) }
 {
     let mut some = Vec::new(alloc);

@@ -1,6 +1,6 @@
 //! The ways up to each slice of each diagonal of a corner, where at most so many boxes stand beside its legs.
 
-ghost use Rattle.std.specs.Prelude.{◌≡◌, ℕ, ◌+◌, ◌*◌, ◌<◌, ◌≤◌, ◌^◌, pos, ◌-ℤ◌, map, unsigned_abs, IfOk, IsErrOf};
+ghost use Rattle.std.specs.Prelude.{◌≡◌, ℕ, ◌+◌, ◌*◌, ◌<◌, ◌≤◌, ◌^◌, pos, ◌-ℤ◌, map, IfOk, IsErrOf};
 ghost use Rattle.tv_ring.specs.Operations.{limit};
 ghost use Rattle.tv_cells.specs.Extras.{extent, count};
 ghost use Rattle.tv_paths.specs.Counts.{path_counts};
@@ -79,9 +79,9 @@ impl<C: Ring> Slices<C> {
     /// all its slices, the last one too. They are ordered by slice, then by cost: slices of fewer boxes first, and of two that
     /// have equally many the one with the greater list of heights.
     pub fn paths(&self, t: i64) -> &[PathCount<C>]
-        requires { unsigned_abs t ≤ self.now.k + extent self.now.legs }
         ensures { result.now ≡ path_counts C.ring self.now.legs self.now.k t }
     {
+        self.legs.known();
         let _ = self.legs.extent();
         let place = place_of(t, self.far);
         self.diagonals[place as usize].as_slice()

@@ -1,5 +1,4 @@
-//! The entries of the corner beside no legs, and beside one leg, where one box stands at most.
-
+//! The entries of the corner beside no legs, where one box stands at most.
 
 use crate::Slices;
 use crate::counts::PathCount;
@@ -28,5 +27,7 @@ fn lists_the_middle_diagonal(rt: HostRuntime) -> Result<(), Fail> {
     assert_eq!(rt; slices.legs().extent(), 0);
     assert_eq!(rt; entries.len(), 2);
     assert!(rt; is_entry(entries.first(), &[], 0) && is_entry(entries.get(1), &[1], 1));
+    assert_eq!(rt; slices.paths(-9).len(), 1);
+    assert_eq!(rt; slices.paths(9).len(), 2);
     Ok(())
 }

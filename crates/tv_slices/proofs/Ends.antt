@@ -1,9 +1,9 @@
 -- The first diagonal's table, and what is read off the last one's.
-use Rattle.std.proofs.Common.{◌≡◌, ℕ, zero, suc, ◌+◌, ◌-◌, ◌*◌, ◌<◌, ◌≤◌, max, ℤ, pos, neg_ℤ, ◌+ℤ◌, ◌-ℤ◌, ◌≤ℤ◌, unsigned_abs, Bool, true, false, List, [], ◌∷◌, ◌++◌, Option, Some, None, refl, sym, ◌∙◌, ap, subst, arith, inl, inr}
-use Rattle.std.specs.Prelude.{cond, ◌&&◌, nat_eq, nat_lt, nat_le, slice_index, MatchOption}
+use Rattle.std.proofs.Common.{◌≡◌, ℕ, suc, ◌+◌, ◌-◌, ◌*◌, ◌<◌, ◌≤◌, max, ℤ, pos, neg_ℤ, ◌-ℤ◌, ◌≤ℤ◌, unsigned_abs, Bool, true, false, List, [], ◌∷◌, ◌++◌, Option, Some, None, refl, sym, ◌∙◌, ap, subst, arith}
+use Rattle.std.specs.Prelude.{cond, ◌&&◌, nat_eq, nat_lt, slice_index, MatchOption}
 use Rattle.std.specs.Map.{lookup}
 use Rattle.std.proofs.lemmas.Int.{ints}
-use Rattle.std.proofs.lemmas.Bool.{cases_Bool, ne_eqb}
+use Rattle.std.proofs.lemmas.Bool.{ne_eqb}
 use Rattle.tv_lemmas.specs.Sums.{sum_of}
 use Rattle.tv_ring.specs.Operations.{Operations, RingLaws}
 use Rattle.tv_ring.proofs.Times.{times-none, times-one}
@@ -12,11 +12,11 @@ use Rattle.tv_ring.specs.Sums.{at, times}
 use Rattle.tv_partition.specs.Rows.{has}
 use Rattle.tv_laws_series.specs.Terms.{listed}
 use Rattle.tv_cells.specs.declared.legs.Legs.{Legs}
-use Rattle.tv_cells.specs.Cells.{x_from, y_from, sublists_of}
+use Rattle.tv_cells.specs.Cells.{sublists_of}
 use Rattle.tv_cells.specs.Extras.{extent, count, AreDiagrams}
-use Rattle.tv_spec_slices.specs.Slices.{Shape, base, fits, extras_of, completion, above, reach, same_shape}
+use Rattle.tv_spec_slices.specs.Slices.{Shape, base, fits, extras_of, completion, above, same_shape}
 use Rattle.tv_spec_slices.specs.Slices.{at as height_at}
-use Rattle.tv_spec_slices.specs.Paths.{fitting, ways, ways_at, start_for, paths}
+use Rattle.tv_spec_slices.specs.Paths.{ways, ways_at, start_for, paths}
 use Rattle.tv_laws_slices.proofs.Sums.{sum_of-zero, sum_of-zeros}
 use Rattle.tv_laws_slices.proofs.Pushed.{same-shape, start-low}
 use Rattle.tv_laws_slices.proofs.Least.{row-earlier}
@@ -27,7 +27,7 @@ use Rattle.tv_slices.specs.Rows.{numbers, marks}
 use Rattle.tv_slices.specs.Tables.{known, ways_to, HasRow, IsTable}
 use Rattle.tv_slices.specs.Joined.{counts_of}
 use Rattle.tv_slices.specs.Bare.{bare, at_start}
-use Rattle.tv_slices.proofs.Numbers.{numbers-same, numbers-at, nothing-at, listed-same}
+use Rattle.tv_slices.proofs.Numbers.{numbers-at, nothing-at, listed-same}
 use Rattle.tv_slices.proofs.Put.{row-same}
 use Rattle.tv_slices.proofs.Only.{bare-only, bare-suits, others-have}
 

@@ -1,6 +1,6 @@
 -- From one diagonal to the next: what is pushed from all slices of a table makes the ways up to each slice above.
-use Rattle.std.proofs.Common.{◌≡◌, ℕ, zero, suc, ◌+◌, ◌-◌, ◌*◌, ◌<◌, ◌≤◌, ℤ, pos, neg_ℤ, ◌+ℤ◌, ◌≤ℤ◌, ◌<ℤ◌, Bool, true, false, List, [], ◌∷◌, ◌++◌, length, take, get_or, Option, Some, None, refl, sym, ◌∙◌, ap, subst, arith, inl, inr}
-use Rattle.std.specs.Prelude.{cond, ◌⊎◌, ◌&&◌, nat_eq, nat_le, nat_lt, filter, is_some, MatchOption, slice_get}
+use Rattle.std.proofs.Common.{◌≡◌, ℕ, zero, suc, ◌+◌, ◌-◌, ◌*◌, ◌<◌, ◌≤◌, ℤ, pos, neg_ℤ, ◌+ℤ◌, ◌≤ℤ◌, ◌<ℤ◌, Bool, true, false, List, [], ◌∷◌, length, take, get_or, Option, Some, None, refl, sym, ◌∙◌, ap, subst, arith, inl, inr}
+use Rattle.std.specs.Prelude.{cond, ◌⊎◌, ◌&&◌, nat_le, nat_lt, filter, is_some, MatchOption, slice_get}
 use Rattle.std.specs.List.{AllByRecursion, IsDistinct}
 use Rattle.std.specs.Map.{lookup, keys_of}
 use Rattle.std.proofs.lemmas.Bool.{cases_Bool, cases_lt, lt-leb, le-leb, lt-ltb}
@@ -9,9 +9,9 @@ use Rattle.tv_lemmas.specs.Sums.{sum_of}
 use Rattle.tv_lemmas.proofs.Sums.{sum_of-append, sum_of-one}
 use Rattle.tv_ring.specs.Operations.{Operations, limit}
 use Rattle.tv_cells.specs.declared.legs.Legs.{Legs}
-use Rattle.tv_cells.specs.Extras.{bit, extent, count, AreDiagrams}
+use Rattle.tv_cells.specs.Extras.{extent, count, AreDiagrams}
 use Rattle.tv_spec_slices.specs.Slices.{Shape, fits, interlaces, extras_of, completion, same_shape}
-use Rattle.tv_spec_slices.specs.Paths.{fitting, next_of, ways_at}
+use Rattle.tv_spec_slices.specs.Paths.{fitting, ways_at}
 use Rattle.tv_laws_slices.specs.Laws.{often}
 use Rattle.tv_laws_slices.proofs.Sums.{sum_of-same, sum_of-zero, sum_of-filter}
 use Rattle.tv_laws_slices.proofs.Once.{once-all}

@@ -1,17 +1,16 @@
 -- A slice pushed to its neighbours, one after the other.
-use Rattle.std.proofs.Common.{◌≡◌, ℕ, zero, suc, ◌+◌, ◌-◌, ◌*◌, ◌<◌, ◌≤◌, ℤ, pos, ◌+ℤ◌, Bool, true, false, List, [], ◌∷◌, ◌++◌, length, take, get_or, refl, sym, ◌∙◌, ap, subst, arith, inl, inr}
-use Rattle.std.specs.Prelude.{cond, ◌&&◌, nat_le, filter}
+use Rattle.std.proofs.Common.{◌≡◌, ℕ, zero, suc, ◌+◌, ◌-◌, ◌<◌, ◌≤◌, ℤ, pos, ◌+ℤ◌, Bool, true, false, List, [], ◌∷◌, ◌++◌, length, take, get_or, refl, sym, ◌∙◌, ap, subst, arith}
+use Rattle.std.specs.Prelude.{◌&&◌, nat_le}
 use Rattle.std.specs.List.{AllByRecursion}
 use Rattle.std.proofs.lemmas.Bool.{leb-true}
 use Rattle.tv_lemmas.specs.Sums.{sum_of}
 use Rattle.tv_lemmas.proofs.Sums.{sum_of-append, sum_of-one}
 use Rattle.tv_lemmas.proofs.Members.{all-found, all-filter, all-at}
-use Rattle.tv_ring.specs.Operations.{Operations, limit}
+use Rattle.tv_ring.specs.Operations.{Operations}
 use Rattle.tv_cells.specs.declared.legs.Legs.{Legs}
 use Rattle.tv_cells.specs.Extras.{bit, AreDiagrams}
 use Rattle.tv_spec_slices.specs.Slices.{Shape, fits, interlaces, extras_of, completion, same_shape}
 use Rattle.tv_spec_slices.specs.Paths.{fitting, next_of, ways_at}
-use Rattle.tv_laws_slices.specs.Laws.{often}
 use Rattle.tv_laws_slices.proofs.Once.{once-all}
 use Rattle.tv_laws_slices.proofs.Steps.{completion-step}
 use Rattle.tv_laws_slices.proofs.Pushed.{own-shape, listed-often}

@@ -1,5 +1,5 @@
 -- Numbers times one in a list: how they are read, and what the sum of two lists is.
-use Rattle.std.proofs.Common.{◌≡◌, ℕ, ◌+◌, ◌-◌, ◌*◌, ◌<◌, ◌≤◌, Bool, true, false, List, [], ◌∷◌, ◌++◌, refl, sym, ◌∙◌, ap, arith, add-mul, inl, inr}
+use Rattle.std.proofs.Common.{◌≡◌, ℕ, ◌+◌, ◌-◌, ◌*◌, ◌<◌, ◌≤◌, Bool, false, List, [], ◌∷◌, ◌++◌, refl, sym, ◌∙◌, ap, arith, add-mul, inl, inr}
 use Rattle.std.specs.Prelude.{cond, ◌&&◌, ◌||◌, nat_lt, nat_le}
 use Rattle.std.proofs.lemmas.Bool.{cases_lt, lt-ltb, le-ltb, le-leb, lt-leb}
 use Rattle.std.proofs.lemmas.Bool.Decides.{nat_tests}
@@ -10,7 +10,7 @@ use Rattle.tv_ring.specs.Sums.{at, times}
 use Rattle.tv_ring.proofs.Times.{times-none, times-add}
 use Rattle.tv_ring.proofs.Sizes.{size-times}
 use Rattle.tv_laws_series.specs.Terms.{listed}
-use Rattle.tv_laws_series.proofs.Listed.{listed_all, length-listed, listed-none, listed_push, at-listed, at_past, at_read}
+use Rattle.tv_laws_series.proofs.Listed.{listed_all, length-listed, listed-none, listed_push, at-listed, at_past}
 use Rattle.tv_slices.specs.Rows.{shifted, sums, numbers, is_reached, either_reached, marks}
 
 pub shifted-none : {A : Type 0} (r : Operations A) (more : List A) (x e : ℕ) → e < x → r.nought ≡ shifted r more x e

@@ -1,13 +1,13 @@
 -- The slice of the legs alone is the only one without extras.
-use Rattle.std.proofs.Common.{◌≡◌, ℕ, zero, suc, ◌+◌, ◌-◌, ◌<◌, ◌≤◌, ℤ, Bool, true, false, List, [], ◌∷◌, ◌++◌, map, refl, sym, ◌∙◌, ap, subst, arith, append-nil, inl, inr}
+use Rattle.std.proofs.Common.{◌≡◌, ℕ, zero, suc, ◌+◌, ◌-◌, ◌<◌, ◌≤◌, ℤ, Bool, true, false, List, [], ◌∷◌, ◌++◌, map, refl, sym, ◌∙◌, ap, arith, append-nil}
 use Rattle.std.specs.Prelude.{cond, ◌&&◌, nat_eq, nat_lt, nat_le, filter}
 use Rattle.std.specs.List.{flat_map}
-use Rattle.std.proofs.lemmas.Bool.{lt-ltb, le-leb, leb-true, ne_eqb, cases_Bool}
+use Rattle.std.proofs.lemmas.Bool.{leb-true, ne_eqb}
 use Rattle.std.proofs.lemmas.Bool.Decides.{nat_tests}
 use Rattle.tv_cells.specs.declared.legs.Legs.{Legs}
 use Rattle.tv_cells.specs.Extras.{bit, extent, AreDiagrams}
 use Rattle.tv_spec_slices.specs.Slices.{Shape, base_at, fits, extras_of, same_shape}
-use Rattle.tv_spec_slices.specs.Paths.{full_of, columns, down, shape, fitting, fitting_by, fitting_from}
+use Rattle.tv_spec_slices.specs.Paths.{full_of, columns, down, shape, fitting, fitting_by}
 use Rattle.tv_laws_slices.specs.Laws.{often}
 use Rattle.tv_laws_slices.proofs.Once.{once-all}
 use Rattle.tv_laws_slices.proofs.Bases.{base-next, base-past}

@@ -1,9 +1,9 @@
 -- What is put into a table.
-use Rattle.std.proofs.Common.{◌≡◌, ℕ, ◌+◌, ◌-◌, ◌*◌, ◌<◌, ◌≤◌, min, ℤ, Bool, true, false, List, [], ◌∷◌, Option, Some, None, refl, sym, ◌∙◌, ap, subst, arith, inl, inr}
+use Rattle.std.proofs.Common.{◌≡◌, ℕ, ◌+◌, ◌-◌, ◌<◌, ◌≤◌, min, ℤ, Bool, true, false, List, [], ◌∷◌, Option, Some, None, refl, sym, ◌∙◌, ap, subst, arith, inl, inr}
 use Rattle.std.specs.Prelude.{cond, ◌&&◌, nat_lt, nat_le, MatchOption}
 use Rattle.std.specs.List.{AllByRecursion}
 use Rattle.std.specs.Map.{lookup}
-use Rattle.std.proofs.lemmas.Bool.{cases_Bool, cases_lt, lt-leb, le-leb}
+use Rattle.std.proofs.lemmas.Bool.{cases_lt, lt-leb, le-leb}
 use Rattle.indexmap.specs.IndexMap.{insert_entry}
 use Rattle.tv_ring.specs.Operations.{Operations, RingLaws, SizeLaws, limit}
 use Rattle.tv_ring.specs.Sums.{at, times}
@@ -11,8 +11,8 @@ use Rattle.tv_cells.specs.declared.legs.Legs.{Legs}
 use Rattle.tv_spec_slices.specs.Slices.{Shape, fits, extras_of, same_shape}
 use Rattle.tv_laws_slices.proofs.Pushed.{same-shape, own-shape}
 use Rattle.tv_slices.specs.declared.row.Row.{Row}
-use Rattle.tv_slices.specs.Rows.{shifted, sums, numbers, is_reached}
-use Rattle.tv_slices.specs.Tables.{known, HasRow, IsTable, given, Pushes, with_one, IsTooMany}
+use Rattle.tv_slices.specs.Rows.{shifted, is_reached}
+use Rattle.tv_slices.specs.Tables.{known, HasRow, IsTable, Pushes, with_one, IsTooMany}
 use Rattle.tv_slices.specs.Joined.{counts_of, reached_of, IsJoined}
 use Rattle.tv_slices.proofs.Numbers.{numbers-same, numbers-at, nothing-at, shifted-at, sums-numbers, sum-wide, marks-same, marks-at, marks-shifted, marks-either}
 

@@ -1,7 +1,6 @@
-use Rattle.std.proofs.Common.{◌≡◌, ◌+◌, ◌<◌, ◌≤◌, length, ℤ, List, w32, sym, ◌∙◌, ap, arith, subst}
+use Rattle.std.proofs.Common.{◌≡◌, ◌<◌, ◌≤◌, length, ℤ, w32, ◌∙◌, arith, subst}
 use Rattle.std.specs.Prelude.{filter}
 use Rattle.std.proofs.lemmas.Int.{to_z-of_z}
-use Rattle.tv_spec_slices.specs.Slices.{Shape}
 use Rattle.tv_spec_slices.specs.Paths.{fitting}
 use Rattle.tv_paths.specs.Among.{is_among}
 use Rattle.tv_paths.proofs.Entries.{UpTo, slices-none, slices-more, slices-all}

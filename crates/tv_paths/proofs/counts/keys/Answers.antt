@@ -1,5 +1,4 @@
-use Rattle.std.proofs.Common.{◌≡◌, ◌+◌, ◌++◌, ◌∷◌, [], true, false, take, sym, ◌∙◌, ap, arith, rules}
-use Rattle.std.specs.Map.{keys_of}
+use Rattle.std.proofs.Common.{◌≡◌, true, false, sym, ◌∙◌, ap, arith, rules}
 use Rattle.tv_paths.proofs.Entries.{keys-next}
 use Rattle.tv_paths.proofs.counts.keys.Goals as goal
 use Rattle.tv_paths.proofs.counts.keys.Goals.{in-Some+in_ok-clone+in_ok-push, in_default}

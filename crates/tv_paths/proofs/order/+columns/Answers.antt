@@ -1,4 +1,4 @@
-use Rattle.std.proofs.Common.{◌≡◌, ℕ, suc, ◌+◌, ◌-◌, ◌<◌, ◌≤◌, ◌++◌, ◌∷◌, [], List, length, ap, arith, refl, sym, ◌∙◌, subst, rules, w32, to_z, of_z, length-append, inl, inr}
+use Rattle.std.proofs.Common.{◌≡◌, ℕ, suc, ◌+◌, ◌-◌, ◌++◌, ◌∷◌, [], List, length, ap, arith, refl, sym, ◌∙◌, subst, rules, w32, to_z, of_z, length-append, inl, inr}
 use Rattle.std.specs.Prelude.{OnOk, cond, filter, ◌&&◌, nat_eq}
 use Rattle.std.proofs.lemmas.Int.{to_z-of_z}
 use Rattle.tv_spec_slices.specs.Slices.{Shape, base_at}
@@ -68,7 +68,7 @@ push_height-returns-then-height-eq0-clause-all m c =
     let d = c.args.full + length c.args.front.now.items in
     let base : c.base_at.result ≡ base_at c.args.legs.now c.args.t d = simp to_z-of_z at c.base_at.ensures.value ∙ ap (λ n. base_at c.args.legs.now c.args.t (c.args.full + n)) len in
     height-outside c.args.keys.now c.args.legs.now c.args.t c.args.full c.args.front.now.items d c.args.left c.args.top c.args.extras c.args.more (c.base_at.result + c.args.more) c.args.all.now.items (ap (λ b. b + c.args.more) base)
-    (λ low high. elim c.then-height-eq0.either [ | inl none ↦ omega (arith, none, low) | inr over ↦ let above = over.1 in omega (arith, above, high) ])
+    (λ low high. elim c.then-height-eq0.either [ inl none ↦ omega (arith, none, low) | inr over ↦ let above = over.1 in omega (arith, above, high) ])
 
 pub push_height-returns-clause-all : goal.push_height-returns-clause-all
 push_height-returns-clause-all m c =

@@ -1,4 +1,4 @@
-use Rattle.std.proofs.Common.{◌≡◌, length, length-append, sym, ◌∙◌, ap, arith}
+use Rattle.std.proofs.Common.{length, length-append, ◌∙◌, ap, arith}
 use Rattle.std.proofs.lemmas.Int.{to_z-of_z}
 use Rattle.tv_slices.specs.Bare.{bare_from}
 use Rattle.tv_slices.proofs.Heights.{heights-start, heights-next, heights-stop, heights-done}

@@ -1,4 +1,4 @@
-use Rattle.std.proofs.Common.{◌≡◌, sym, ◌∙◌}
+use Rattle.std.proofs.Common.{sym, ◌∙◌}
 use Rattle.tv_ring.specs.Sums.{at}
 use Rattle.tv_laws_series.proofs.Listed.{listed-none, listed_push}
 use Rattle.tv_slices.proofs.counts.copied.Goals as goal

@@ -1,4 +1,4 @@
-use Rattle.std.proofs.Common.{◌≡◌, sym, ◌∙◌}
+use Rattle.std.proofs.Common.{sym, ◌∙◌}
 use Rattle.tv_slices.specs.Bare.{at_start}
 use Rattle.tv_slices.proofs.Ends.{numbers-none, numbers_push}
 use Rattle.tv_slices.proofs.counts.first_counts.Goals as goal

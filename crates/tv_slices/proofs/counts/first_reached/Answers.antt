@@ -1,4 +1,4 @@
-use Rattle.std.proofs.Common.{◌≡◌, sym, ◌∙◌, nat_eq}
+use Rattle.std.proofs.Common.{sym, ◌∙◌, nat_eq}
 use Rattle.tv_slices.specs.Bare.{at_start}
 use Rattle.tv_slices.proofs.Numbers.{marks-none, marks_push}
 use Rattle.tv_slices.proofs.Ends.{start-mark}

@@ -1,4 +1,4 @@
-use Rattle.std.proofs.Common.{◌≡◌, ℕ, ◌+◌, ◌*◌, ℤ, pos, neg_ℤ, ◌+ℤ◌, ◌-ℤ◌, ◌≤ℤ◌, w32, to_z, of_z, sym, ◌∙◌, ap, arith, subst}
+use Rattle.std.proofs.Common.{◌≡◌, ℕ, ◌+◌, ◌*◌, ℤ, pos, ◌+ℤ◌, ◌-ℤ◌, w32, to_z, of_z, sym, arith, subst}
 use Rattle.std.proofs.lemmas.Int.{ints}
 use Rattle.tv_slices.specs.Tables.{ways_to, IsTable}
 use Rattle.tv_slices.proofs.counts.last_table.Goals as goal

@@ -1,4 +1,4 @@
-use Rattle.std.proofs.Common.{◌≡◌, sym, subst}
+use Rattle.std.proofs.Common.{◌≡◌, subst}
 use Rattle.std.specs.Prelude.{IfOk}
 use Rattle.tv_slices.proofs.Ends.{start-one, start-none}
 use Rattle.tv_slices.proofs.counts.start_at.Goals as goal

@@ -1,4 +1,4 @@
-use Rattle.std.proofs.Common.{◌≡◌, sym, ◌∙◌, ap, arith}
+use Rattle.std.proofs.Common.{sym, ◌∙◌}
 use Rattle.tv_laws_series.proofs.Listed.{listed-none, listed_push}
 use Rattle.tv_slices.specs.Rows.{sums}
 use Rattle.tv_slices.proofs.row.added.Goals as goal

@@ -5,7 +5,7 @@ use Rattle.tv_spec_slices.specs.Slices.{Shape}
 use Rattle.tv_spec_slices.specs.Paths.{next_of, ways_at}
 use Rattle.tv_interlace.proofs.Up.{up-fits}
 use Rattle.tv_slices.specs.declared.row.Row.{Row}
-use Rattle.tv_slices.specs.Tables.{known, IsTable, with_slice, IsTooMany}
+use Rattle.tv_slices.specs.Tables.{known, IsTable, IsTooMany}
 use Rattle.tv_slices.proofs.Neighbours.{partly, partly-start, partly-more, partly-wide, partly-whole, take-whole, beside-at, pushes-beside}
 use Rattle.tv_slices.proofs.table.push_slice.Goals as goal
 

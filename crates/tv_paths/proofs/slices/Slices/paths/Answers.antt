@@ -1,9 +1,10 @@
-use Rattle.std.proofs.Common.{◌≡◌, ℕ, ◌+◌, ◌*◌, ◌<◌, ◌≤◌, ℤ, pos, ◌-ℤ◌, unsigned_abs, w64, sym, ◌∙◌, ap, arith, subst}
+use Rattle.std.proofs.Common.{◌≡◌, ℕ, ◌+◌, ◌*◌, ◌<◌, ◌≤◌, w64, ◌∙◌, ap, arith}
 use Rattle.std.proofs.lemmas.Int.{to_z-of_z}
 use Rattle.tv_cells.specs.Extras.{extent}
 use Rattle.tv_paths.specs.Counts.{path_counts}
-use Rattle.tv_paths.specs.Built.{Built, diagonal_counts, nearest}
-use Rattle.tv_paths.proofs.Diagonals.{row-read, row-long, nearest-within}
+use Rattle.tv_paths.specs.Built.{diagonal_counts, nearest}
+use Rattle.tv_paths.proofs.Diagonals.{row-read, row-long}
+use Rattle.tv_paths.proofs.Outside.{paths-nearest}
 use Rattle.tv_paths.proofs.slices.Slices.paths.Goals as goal
 
 pub place_of-place-requires : goal.place_of-place-requires
@@ -20,8 +21,7 @@ index-requires g c =
 pub returns : goal.returns
 returns g c =
     let r = g.C.Ring.ring in let legs = c.self.inside.legs in let k = c.self.inside.k in let far = c.self.inside.far in
-    let P : Built → Type 0 = λ b. unsigned_abs c.args.t ≤ b.k + extent b.legs in
-    let near : unsigned_abs c.args.t ≤ far = subst (λ n. unsigned_abs c.args.t ≤ n) (sym c.self.invariant.end) (subst P (sym c.self.view_is) c.requires) in
+    let at_nearest = ap (λ f. path_counts r legs k (nearest f c.args.t)) c.self.invariant.end ∙ paths-nearest legs k c.known.ensures.diagrams r c.args.t in
     c.as_slice.ensures.value
     ∙ (row-read (λ v. v.items) (diagonal_counts r legs k far) (2 * far + 1) c.place_of-place.result c.self.inside.diagonals.items c.index.result.now c.self.invariant.diagonals (omega (arith, c.place_of-place.ensures.within)) c.index.ensures
-    ∙ (ap (path_counts r legs k) (c.place_of-place.ensures.value ∙ (ap (nearest far) (to_z-of_z w64 c.args.t c.ranges.t) ∙ nearest-within far c.args.t near)) ∙ ap (λ b. path_counts r b.legs b.k c.args.t) c.self.view_is))
+    ∙ ((ap (path_counts r legs k) (c.place_of-place.ensures.value ∙ ap (nearest far) (to_z-of_z w64 c.args.t c.ranges.t)) ∙ at_nearest) ∙ ap (λ b. path_counts r b.legs b.k c.args.t) c.self.view_is))
