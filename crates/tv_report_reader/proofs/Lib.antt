@@ -5,3 +5,5 @@ pub mod HeadSteps
 pub mod Sections
 pub mod BodySteps
 pub mod LinesRead
+pub mod Dense
+pub mod Families
