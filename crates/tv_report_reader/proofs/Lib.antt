@@ -7,3 +7,4 @@ pub mod BodySteps
 pub mod LinesRead
 pub mod Dense
 pub mod Families
+pub mod Putting

@@ -14,9 +14,11 @@
 -- HasExponent ts n == the first term is at the exponent n
 -- Cursor ts rest n == from n on the terms have the values of the rest, which begins at n or above
 -- CanPut k s i     == the integer i of the section's class comes later than all that are kept
--- MayTake k s      == the section's class comes later than all that are kept, and its integers are as the grammar asks
+-- HasIntegers hs s == the section's integers are as the grammar asks, and its class is positive where it has some
+-- MayTake k s      == so, and the section's class comes later than all that are kept
+-- StartsIntegers k ss == no integer is kept yet, and the sections have such integers; their classes rise
 -- IsTold d r       == the report r has the family of the data d, and its integers under the same heights
-use Rattle.std.specs.Prelude.{◌≡◌, ◌≢◌, ℕ, ℤ, pos, ◌+ℤ◌, ◌≤ℤ◌, List, [], ◌∷◌, ◌++◌, map, if◌then◌else◌}
+use Rattle.std.specs.Prelude.{◌≡◌, ◌≢◌, ◌<◌, ℕ, ℤ, pos, ◌+ℤ◌, ◌≤ℤ◌, List, [], ◌∷◌, ◌++◌, length, map, if◌then◌else◌}
 use Rattle.std.specs.List.{AllByRecursion}
 use Rattle.std.specs.Ordering.{int_eq}
 use Rattle.tv_laws_series.specs.Terms.{Terms, terms, above, listed}
@@ -90,8 +92,16 @@ pub record CanPut (k : Kept) (s : GvSection) (i : GenusValue) : Type 0 where
   pub value : i.value ≢ pos 0
   pub later : AllByRecursion (ComesLater k.heights (integer_of s.section.entries i)) k.integers
 
-pub record MayTake (k : Kept) (s : GvSection) : Type 0 where
-  pub class : IsPositiveClass k.heights s.section.entries
+pub record HasIntegers (hs : List ℤ) (s : GvSection) : Type 0 where
+  pub class : 0 < length s.integers → IsPositiveClass hs s.section.entries
   pub values : AllByRecursion IntegerFits s.integers
   pub genera : GeneraRise s.integers
+
+pub record MayTake (k : Kept) (s : GvSection) : Type 0 where
+  pub section : HasIntegers k.heights s
   pub later : AllByRecursion (λ (j : Integer). IsBefore k.heights j.class s.section.entries) k.integers
+
+pub record StartsIntegers (k : Kept) (ss : List GvSection) : Type 0 where
+  pub none : k.integers ≡ []
+  pub each : AllByRecursion (HasIntegers k.heights) ss
+  pub rise : ClassesRise k.heights (map (λ (p : GvSection). p.section.entries) ss)

@@ -18,3 +18,6 @@ mod wide;
 
 pub use fault::ReportError;
 pub use reading::read_report;
+
+#[cfg(test)]
+mod tests;
