@@ -34,10 +34,10 @@ later-kind (p ∷ ps) = inr (ap kind (lines-some p ps))
 no-term-later : (later : List GvSection) → kind (lines_from later) ≢ 4
 no-term-later later e = let k = later-kind later in grind arith
 
-no-integer-later : (later : List GvSection) → kind (lines_from later) ≢ 7
+pub no-integer-later : (later : List GvSection) → kind (lines_from later) ≢ 7
 no-integer-later later e = let k = later-kind later in grind arith
 
-no-term-integers : (is : List GenusValue) (later : List GvSection) → kind (map integer_line is ++ lines_from later) ≢ 4
+pub no-term-integers : (is : List GenusValue) (later : List GvSection) → kind (map integer_line is ++ lines_from later) ≢ 4
 no-term-integers [] later e = no-term-later later e
 no-term-integers (i ∷ is) later e = absurd (omega arith)
 

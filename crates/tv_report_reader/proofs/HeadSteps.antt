@@ -116,7 +116,7 @@ upto-unfit s z number unfit = λ f d more fits rest. unfit (subst OrderFits (upt
 
 -- class zero
 
-section-same : (p q : GvSection) → p.section.degree ≡ q.section.degree → p.section.entries ≡ q.section.entries → p.section.terms ≡ q.section.terms → p.integers ≡ q.integers → p ≡ q
+pub section-same : (p q : GvSection) → p.section.degree ≡ q.section.degree → p.section.entries ≡ q.section.entries → p.section.terms ≡ q.section.terms → p.integers ≡ q.integers → p ≡ q
 section-same p q a b c e =
     ap (λ z. section_by z p.section.entries p.section.terms p.integers) a
     ∙ ap (λ v. section_by q.section.degree v p.section.terms p.integers) b

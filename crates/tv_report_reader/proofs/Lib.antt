@@ -8,3 +8,4 @@ pub mod LinesRead
 pub mod Dense
 pub mod Families
 pub mod Putting
+pub mod Readings

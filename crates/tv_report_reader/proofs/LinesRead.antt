@@ -16,7 +16,7 @@ use Rattle.tv_report_reader.specs.declared.stage.Stage.TheVariants.{Opening, Hei
 use Rattle.tv_report_reader.proofs.Sections.{sound-fits, lines-none, lines-some}
 use Rattle.tv_report_reader.proofs.BodySteps.{grown-none, with-class}
 
-all_lines : (d : GvData) → gv_lines d.heights d.degree d.upto d.sections ≡ title_line ∷ from_heights d
+pub all_lines : (d : GvData) → gv_lines d.heights d.degree d.upto d.sections ≡ title_line ∷ from_heights d
 unfolding lines_from
 all_lines d = refl
 

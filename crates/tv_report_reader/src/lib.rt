@@ -6,6 +6,7 @@ mod draft;
 mod fault;
 mod heights;
 mod integers;
+pub mod laws;
 pub mod limits;
 mod part;
 mod reading;
