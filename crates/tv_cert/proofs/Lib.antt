@@ -7,3 +7,4 @@ pub mod PowerLines
 pub mod Computed
 pub mod Compared
 pub mod Planned
+mod TestReports

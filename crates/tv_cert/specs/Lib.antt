@@ -3,3 +3,4 @@ pub mod Powers
 pub mod Slopes
 pub mod Differences
 pub mod Plans
+pub mod Tested

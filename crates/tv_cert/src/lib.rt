@@ -20,3 +20,6 @@ mod weights;
 pub use fault::CertFault;
 pub use verdict::Verdict;
 pub use verification::verify;
+
+#[cfg(test)]
+mod tests;
