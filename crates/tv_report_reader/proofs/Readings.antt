@@ -1,9 +1,8 @@
 -- Lines spell at most one report, and bytes are refused for one reason at most.
-use Rattle.std.proofs.Common.{◌≡◌, ◌≢◌, ℕ, ℤ, pos, suc, ◌≤ℤ◌, List, [], ◌∷◌, ◌++◌, length, map, drop, get_or, refl, sym, ◌∙◌, ap, subst, arith}
+use Rattle.std.proofs.Common.{◌≡◌, ℕ, ℤ, pos, suc, ◌≤ℤ◌, List, [], ◌∷◌, ◌++◌, length, map, drop, get_or, refl, sym, ◌∙◌, ap, subst, arith}
 use Rattle.std.proofs.lemmas.Int.{ints}
 use Rattle.std.specs.List.{AllByRecursion}
 use Rattle.tv_lemmas.proofs.Members.{all-onto}
-use Rattle.tv_spec_boxes.specs.Assignments.{zeros}
 use Rattle.tv_spec_text.specs.Lines.{Line, IsNumber, word_lines}
 use Rattle.tv_spec_text.specs.Reports.{Term, term_line}
 use Rattle.tv_spec_text.proofs.Places.{IsPlace-unique, IsPlace-none}
@@ -13,9 +12,9 @@ use Rattle.tv_lattice.specs.declared.fault.ReportFault.{ReportFault}
 use Rattle.tv_lattice.specs.declared.fault.ReportFault.TheVariants.{TooLong, Line as AtLine}
 use Rattle.tv_integers.specs.declared.report.Report.{Report}
 use Rattle.tv_report_reader.specs.declared.fault.ReportError.TheVariants.{Fault}
-use Rattle.tv_report_reader.specs.Rows.{title_line, class_words, TermFits}
+use Rattle.tv_report_reader.specs.Rows.{TermFits}
 use Rattle.tv_report_reader.specs.Faults.{IsReport, IsReportFault}
-use Rattle.tv_report_reader.specs.Stages.{lines_from, from_heights}
+use Rattle.tv_report_reader.specs.Stages.{lines_from}
 use Rattle.tv_report_reader.proofs.Spelled.{small_numbers, bounded_number, zeros_numbers, heights_injective, degree_injective, upto_injective, class_injective, term_injective, integer_injective}
 use Rattle.tv_report_reader.proofs.Sections.{lines-none, lines-some}
 use Rattle.tv_report_reader.proofs.HeadSteps.{section-same}
