@@ -15,7 +15,7 @@ use Rattle.tv_report_reader.specs.Stages.{Seen, shell, AreSound, HasClosed, Fitt
 use Rattle.tv_report_reader.specs.declared.stage.Stage.{Stage}
 use Rattle.tv_report_reader.specs.declared.stage.Stage.TheVariants.{Closed, Terms, Integers, Done}
 use Rattle.tv_report_reader.proofs.Ends.{Rises-push, Rises-at, GeneraRise-push, GeneraRise-at}
-use Rattle.tv_report_reader.proofs.Spelled.{bounded_number, class_injective, term_injective, integer_injective}
+use Rattle.tv_report_reader.proofs.Spelled.{bounded_number, class_injective, term_injective, integer_injective, first, others}
 use Rattle.tv_spec_boxes.specs.Assignments.{zeros}
 use Rattle.tv_report_reader.proofs.Sections.{refit, all-refit, section-at, sections-push, sections-front, rise-push, rise-at, same-classes, opened-degree, before-later, later-before, lines-none, lines-some}
 
@@ -39,12 +39,6 @@ no-integer-later later e = let k = later-kind later in grind arith
 pub no-term-integers : (is : List GenusValue) (later : List GvSection) → kind (map integer_line is ++ lines_from later) ≢ 4
 no-term-integers [] later e = no-term-later later e
 no-term-integers (i ∷ is) later e = absurd (omega arith)
-
-first : (k l : Line) (ks ls : List Line) → k ∷ ks ≡ l ∷ ls → k ≡ l
-first k l ks ls e = ap (λ xs. get_or xs 0 []) e
-
-others : (k l : Line) (ks ls : List Line) → k ∷ ks ≡ l ∷ ls → ks ≡ ls
-others k l ks ls e = ap (drop 1) e
 
 -- the same header
 

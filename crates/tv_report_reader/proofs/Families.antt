@@ -26,9 +26,6 @@ use Rattle.tv_report_reader.proofs.HeadSteps.{order-fits, degree-fits}
 use Rattle.tv_report_reader.specs.Told.{row_of, series_of, AreSeriesTerms, HasSeries, StartsFamily}
 use Rattle.tv_report_reader.proofs.Dense.{series-cut}
 
-entries : GvSection → List ℤ
-entries p = p.section.entries
-
 -- the classes before one are all before it
 pub rise-all : (hs : List ℤ) (ps : List GvSection) (q : GvSection) (more : List GvSection) → ClassesRise hs (map (λ (x : GvSection). x.section.entries) (ps ++ q ∷ more)) → AllByRecursion (λ (p : GvSection). IsBefore hs p.section.entries q.section.entries) ps
 rise-all hs [] q more r = tt

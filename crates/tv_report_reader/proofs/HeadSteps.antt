@@ -15,7 +15,7 @@ use Rattle.tv_report_reader.specs.Checks.{section_by, HeightsFit, DegreeFits, Or
 use Rattle.tv_report_reader.specs.Stages.{Seen, zero_section, IsFresh, AreSound, lines_from, one_line, from_zero, Agrees, Leads, Stops}
 use Rattle.tv_report_reader.specs.declared.stage.Stage.{Stage}
 use Rattle.tv_report_reader.specs.declared.stage.Stage.TheVariants.{Opening, Heights, Degree, Upto, Zero, One, Closed}
-use Rattle.tv_report_reader.proofs.Spelled.{small_numbers, bounded_number, zeros_numbers, zeros-all, all-zeros, length-zeros, heights_injective, degree_injective, upto_injective, class_injective, term_injective}
+use Rattle.tv_report_reader.proofs.Spelled.{small_numbers, bounded_number, zeros_numbers, zeros-all, all-zeros, length-zeros, heights_injective, degree_injective, upto_injective, class_injective, term_injective, first, others}
 
 -- the stage and the line by other names
 
@@ -24,12 +24,6 @@ Leads-as g k s l m h t e f x = subst (λ (j : Stage). Leads j s l h t) (sym e) (
 
 pub Stops-as : (g k : Stage) (s : Seen) (l m : Line) → g ≡ k → l ≡ m → Stops k s m → Stops g s l
 Stops-as g k s l m e f x = subst (λ (j : Stage). Stops j s l) (sym e) (subst (λ (n : Line). Stops k s n) (sym f) x)
-
-first : (k l : Line) (ks ls : List Line) → k ∷ ks ≡ l ∷ ls → k ≡ l
-first k l ks ls e = ap (λ xs. get_or xs 0 []) e
-
-others : (k l : Line) (ks ls : List Line) → k ∷ ks ≡ l ∷ ls → ks ≡ ls
-others k l ks ls e = ap (drop 1) e
 
 -- what the grammar asks of the data
 

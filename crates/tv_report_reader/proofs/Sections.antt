@@ -47,9 +47,6 @@ sections-front d (z ∷ ps) more h fits = (fits.0, all-front (SectionFits d) ps 
 
 -- classes that rise
 
-entries : GvSection → List ℤ
-entries p = p.section.entries
-
 pub rise-push : (hs : List ℤ) (ps : List GvSection) (p q : GvSection) → ClassesRise hs (map (λ (x : GvSection). x.section.entries) (ps ++ p ∷ [])) → IsBefore hs p.section.entries q.section.entries → ClassesRise hs (map (λ (x : GvSection). x.section.entries) ((ps ++ p ∷ []) ++ q ∷ []))
 rise-push hs [] p q r h = (h, tt)
 rise-push hs (a ∷ []) p q r h = (r.0, rise-push hs [] p q r.1 h)

@@ -61,6 +61,14 @@ pub length-zeros : (n : ℕ) → length (zeros n) ≡ n
 length-zeros zero = refl
 length-zeros (suc n) = let rest = length-zeros n in omega arith
 
+-- equal lists of lines
+
+pub first : (k l : Line) (ks ls : List Line) → k ∷ ks ≡ l ∷ ls → k ≡ l
+first k l ks ls e = ap (λ xs. get_or xs 0 []) e
+
+pub others : (k l : Line) (ks ls : List Line) → k ∷ ks ≡ l ∷ ls → ks ≡ ls
+others k l ks ls e = ap (drop 1) e
+
 -- the words of a line behind the first
 
 behind : (k l : Line) → k ≡ l → drop 1 k ≡ drop 1 l
