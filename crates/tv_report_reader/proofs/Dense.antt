@@ -1,11 +1,11 @@
 -- The coefficients of a series, one exponent after another, along rising terms.
-use Rattle.std.proofs.Common.{◌≡◌, ◌≢◌, ℕ, ℤ, pos, negsuc, zero, suc, ◌+◌, ◌-◌, ◌<◌, ◌≤◌, ◌^◌, ◌≤ℤ◌, ◌<ℤ◌, ◌+ℤ◌, ◌-ℤ◌, List, [], ◌∷◌, ◌++◌, length, take, drop, get_or, refl, sym, ◌∙◌, ap, subst, arith, unsigned_abs, true, false, if◌then◌else◌}
+use Rattle.std.proofs.Common.{◌≡◌, ℕ, ℤ, pos, negsuc, zero, suc, ◌+◌, ◌≤◌, ◌≤ℤ◌, ◌+ℤ◌, ◌-ℤ◌, List, [], ◌∷◌, ◌++◌, length, take, drop, refl, sym, ◌∙◌, ap, subst, arith, unsigned_abs}
 use Rattle.std.proofs.lemmas.Int.{ints, clamps}
 use Rattle.std.proofs.lemmas.Bool.Decides.{Decides-int_eq}
 use Rattle.std.specs.List.{AllByRecursion}
 use Rattle.std.specs.Ordering.{int_eq}
 use Rattle.tv_lemmas.proofs.Members.{all-onto}
-use Rattle.tv_laws_series.specs.Terms.{Terms, terms, above, upto, listed, IsWithin, IsBounded}
+use Rattle.tv_laws_series.specs.Terms.{terms, above, upto, listed, IsBounded}
 use Rattle.tv_laws_series.specs.Series.{series_cut}
 use Rattle.tv_laws_series.proofs.Exponents.{above_adds}
 use Rattle.std.specs.Int.{int_min}
@@ -14,7 +14,6 @@ use Rattle.tv_laws_series.proofs.NormalForm.{bool_cases}
 use Rattle.tv_laws_series.proofs.Listed.{length-listed, listed-none, listed_push}
 use Rattle.tv_spec_text.specs.Reports.{Term, Rises}
 use Rattle.tv_spec_text.specs.Lines.{IsNumber}
-use Rattle.tv_spec_reports.specs.Grammar.{GvTermFits}
 use Rattle.tv_report_reader.specs.Told.{value_at, lowest, HasExponent, AreSeriesTerms, Cursor, series_of}
 
 value-here : (t : Term) (ts : List Term) (n : ℤ) → t.exponent ≡ n → value_at (t ∷ ts) n ≡ t.coefficient

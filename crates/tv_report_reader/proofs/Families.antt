@@ -1,16 +1,15 @@
 -- Rows of sections, put in one after another.
-use Rattle.std.proofs.Common.{◌≡◌, ℕ, ℤ, pos, suc, ◌+◌, ◌<◌, ◌≤◌, ◌≤ℤ◌, List, [], ◌∷◌, ◌++◌, length, map, take, drop, get_or, refl, sym, ◌∙◌, ap, subst, arith, true, append_assoc, drop-cons, to_z, of_z, w64}
+use Rattle.std.proofs.Common.{◌≡◌, ℕ, ℤ, pos, suc, ◌+◌, ◌<◌, ◌≤ℤ◌, List, [], ◌∷◌, ◌++◌, length, map, take, drop, get_or, refl, sym, ◌∙◌, ap, subst, arith, true, drop-cons, to_z, of_z, w64}
 use Rattle.std.proofs.lemmas.Int.{ints}
 use Rattle.std.proofs.lemmas.List.{take_more, take_all, take-append-drop, map-append}
 use Rattle.std.specs.List.{AllByRecursion}
 use Rattle.tv_lattice.proofs.Each.{each_below}
 use Rattle.tv_lemmas.proofs.Members.{all-onto, all-map}
-use Rattle.tv_ring.specs.Operations.{Operations}
 use Rattle.tv_ring.specs.Whole.{wholes}
 use Rattle.tv_laws_series.specs.Terms.{Terms}
 use Rattle.tv_laws_series.specs.Series.{series_cut}
 use Rattle.tv_spec_boxes.specs.Classes.{IsBefore, ClassesRise}
-use Rattle.tv_spec_series.specs.Families.{Row, Family, row, classes, put, added, comes_before, HasPlace}
+use Rattle.tv_spec_series.specs.Families.{Row, Family, row, put, added, comes_before}
 use Rattle.tv_spec_series.proofs.Rows.{put-nil, put-before}
 use Rattle.tv_spec_series.proofs.Order.{comes_before-true, before_trans}
 use Rattle.tv_spec_series.specs.Families.{without_rows}
@@ -26,9 +25,6 @@ use Rattle.tv_spec_text.specs.Lines.{IsNumber}
 use Rattle.tv_report_reader.proofs.HeadSteps.{order-fits, degree-fits}
 use Rattle.tv_report_reader.specs.Told.{row_of, series_of, AreSeriesTerms, HasSeries, StartsFamily}
 use Rattle.tv_report_reader.proofs.Dense.{series-cut}
-
-entries : GvSection → List ℤ
-entries p = p.section.entries
 
 -- the classes before one are all before it
 pub rise-all : (hs : List ℤ) (ps : List GvSection) (q : GvSection) (more : List GvSection) → ClassesRise hs (map (λ (x : GvSection). x.section.entries) (ps ++ q ∷ more)) → AllByRecursion (λ (p : GvSection). IsBefore hs p.section.entries q.section.entries) ps

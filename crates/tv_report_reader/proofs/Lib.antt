@@ -9,3 +9,4 @@ pub mod Dense
 pub mod Families
 pub mod Putting
 pub mod Readings
+mod Values

@@ -1,15 +1,14 @@
 -- Integers of sections, put in one after another.
-use Rattle.std.proofs.Common.{◌≡◌, ◌≢◌, ℕ, ℤ, pos, zero, suc, ◌+◌, ◌-◌, ◌<◌, ◌≤◌, ◌≤ℤ◌, ◌<ℤ◌, inl, inr, List, [], ◌∷◌, ◌++◌, length, map, take, drop, get_or, refl, sym, ◌∙◌, ap, subst, arith, append_assoc, append-nil, drop-cons, add-one}
+use Rattle.std.proofs.Common.{◌≡◌, ℕ, ℤ, pos, zero, suc, ◌+◌, ◌-◌, ◌<◌, ◌≤◌, ◌≤ℤ◌, ◌<ℤ◌, inl, inr, List, [], ◌∷◌, ◌++◌, length, map, take, drop, get_or, refl, sym, ◌∙◌, ap, subst, arith, append_assoc, append-nil, drop-cons}
 use Rattle.std.proofs.lemmas.Int.{ints}
-use Rattle.std.proofs.lemmas.List.{take_more, take_all, drop_all, take-append-drop, map-append}
+use Rattle.std.proofs.lemmas.List.{take_more, take_all, drop_all, take-append-drop}
 use Rattle.std.specs.List.{AllByRecursion}
 use Rattle.tv_lattice.proofs.Each.{each_below}
 use Rattle.tv_lemmas.proofs.Members.{all-append, all-onto, all-map}
-use Rattle.tv_spec_plane.specs.Web.{degree_of}
 use Rattle.tv_spec_boxes.specs.Classes.{IsBefore, ClassesRise}
 use Rattle.tv_spec_katz.specs.Katz.{Integer}
-use Rattle.tv_spec_katz.specs.Relations.{IsPositiveClass, ComesLater}
-use Rattle.tv_integers.specs.Kept.{Kept, AreKept, set_in, with_integer, integer_at, without_integers}
+use Rattle.tv_spec_katz.specs.Relations.{ComesLater}
+use Rattle.tv_integers.specs.Kept.{Kept, AreKept, with_integer, without_integers}
 use Rattle.tv_integers.proofs.Putting.{set_in_front}
 use Rattle.tv_spec_reports.specs.IntegerLines.{GenusValue, GvSection}
 use Rattle.tv_spec_reports.specs.Grammar.{GvData, FirstSection, IntegerFits, GeneraRise, SectionFits, SectionsFit, GvFits}

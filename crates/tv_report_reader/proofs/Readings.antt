@@ -1,9 +1,8 @@
 -- Lines spell at most one report, and bytes are refused for one reason at most.
-use Rattle.std.proofs.Common.{◌≡◌, ◌≢◌, ℕ, ℤ, pos, suc, ◌≤ℤ◌, List, [], ◌∷◌, ◌++◌, length, map, drop, get_or, refl, sym, ◌∙◌, ap, subst, arith}
+use Rattle.std.proofs.Common.{◌≡◌, ℕ, ℤ, pos, suc, ◌≤ℤ◌, List, [], ◌∷◌, ◌++◌, length, map, drop, get_or, refl, sym, ◌∙◌, ap, subst, arith}
 use Rattle.std.proofs.lemmas.Int.{ints}
 use Rattle.std.specs.List.{AllByRecursion}
 use Rattle.tv_lemmas.proofs.Members.{all-onto}
-use Rattle.tv_spec_boxes.specs.Assignments.{zeros}
 use Rattle.tv_spec_text.specs.Lines.{Line, IsNumber, word_lines}
 use Rattle.tv_spec_text.specs.Reports.{Term, term_line}
 use Rattle.tv_spec_text.proofs.Places.{IsPlace-unique, IsPlace-none}
@@ -13,10 +12,10 @@ use Rattle.tv_lattice.specs.declared.fault.ReportFault.{ReportFault}
 use Rattle.tv_lattice.specs.declared.fault.ReportFault.TheVariants.{TooLong, Line as AtLine}
 use Rattle.tv_integers.specs.declared.report.Report.{Report}
 use Rattle.tv_report_reader.specs.declared.fault.ReportError.TheVariants.{Fault}
-use Rattle.tv_report_reader.specs.Rows.{title_line, class_words, TermFits}
+use Rattle.tv_report_reader.specs.Rows.{TermFits}
 use Rattle.tv_report_reader.specs.Faults.{IsReport, IsReportFault}
-use Rattle.tv_report_reader.specs.Stages.{lines_from, from_heights}
-use Rattle.tv_report_reader.proofs.Spelled.{small_numbers, bounded_number, zeros_numbers, heights_injective, degree_injective, upto_injective, class_injective, term_injective, integer_injective}
+use Rattle.tv_report_reader.specs.Stages.{lines_from}
+use Rattle.tv_report_reader.proofs.Spelled.{small_numbers, bounded_number, zeros_numbers, heights_injective, degree_injective, upto_injective, class_injective, term_injective, integer_injective, first, others}
 use Rattle.tv_report_reader.proofs.Sections.{lines-none, lines-some}
 use Rattle.tv_report_reader.proofs.HeadSteps.{section-same}
 use Rattle.tv_report_reader.proofs.BodySteps.{no-term-integers, no-integer-later}
@@ -33,12 +32,6 @@ abbrev kind : List Line → ℕ
 kind [] = 0
 kind ([] ∷ ls) = 0
 kind ((w ∷ ws) ∷ ls) = length w
-
-first : (k l : Line) (ks ls : List Line) → k ∷ ks ≡ l ∷ ls → k ≡ l
-first k l ks ls e = ap (λ xs. get_or xs 0 []) e
-
-others : (k l : Line) (ks ls : List Line) → k ∷ ks ≡ l ∷ ls → ks ≡ ls
-others k l ks ls e = ap (drop 1) e
 
 same-integers : (is js : List GenusValue) (ss ps : List GvSection) → AllByRecursion IntegerFits is → AllByRecursion IntegerFits js → map integer_line is ++ lines_from ss ≡ map integer_line js ++ lines_from ps → (is ≡ js) × (lines_from ss ≡ lines_from ps)
 same-integers [] [] ss ps h k e = (refl, e)

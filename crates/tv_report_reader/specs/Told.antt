@@ -18,7 +18,7 @@
 -- MayTake k s      == so, and the section's class comes later than all that are kept
 -- StartsIntegers k ss == no integer is kept yet, and the sections have such integers; their classes rise
 -- IsTold d r       == the report r has the family of the data d, and its integers under the same heights
-use Rattle.std.specs.Prelude.{◌≡◌, ◌≢◌, ◌<◌, ℕ, ℤ, pos, ◌+ℤ◌, ◌≤ℤ◌, List, [], ◌∷◌, ◌++◌, length, map, if◌then◌else◌}
+use Rattle.std.specs.Prelude.{◌≡◌, ◌≢◌, ◌<◌, ℤ, pos, ◌+ℤ◌, ◌≤ℤ◌, List, [], ◌∷◌, ◌++◌, length, map, if◌then◌else◌}
 use Rattle.std.specs.List.{AllByRecursion}
 use Rattle.std.specs.Ordering.{int_eq}
 use Rattle.tv_laws_series.specs.Terms.{Terms, terms, above, listed}

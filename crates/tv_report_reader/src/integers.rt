@@ -15,7 +15,8 @@ use tv_ring::Whole;
 /// The integers of the sections. It errs only for want of memory, at once where a class has more than `MOST_GENERA`.
 pub(crate) fn integers_of(alloc: Global, read: &Data) -> Result<Integers, ReportError>
     requires { GvFits read.now }
-    ensures { MatchResult result (λ k. k ≡ record { heights = read.now.heights; integers = integers_of read.now.sections }) (λ e. e ≡ ReportError.Memory) }
+    ensures { MatchResult result (λ k. k ≡ record { heights = read.now.heights; integers = integers_of read.now.sections })
+        (λ e. e ≡ ReportError.Memory) }
 {
     let heights = read.heights.copy(alloc)?;
     let mut integers = Integers::new(alloc, heights);
@@ -25,7 +26,8 @@ pub(crate) fn integers_of(alloc: Global, read: &Data) -> Result<Integers, Report
 
 fn put_sections(integers: &mut Integers, sections: &[Part]) -> Result<(), ReportError>
     requires { StartsIntegers integers.old sections.now }
-    ensures { MatchResult result (λ _. integers.new ≡ record integers.old { integers = integers_of sections.now }) (λ e. e ≡ ReportError.Memory) }
+    ensures { MatchResult result (λ _. integers.new ≡ record integers.old { integers = integers_of sections.now })
+        (λ e. e ≡ ReportError.Memory) }
 {
     for part in sections {
         put_part(integers, part)?;
@@ -36,7 +38,8 @@ fn put_sections(integers: &mut Integers, sections: &[Part]) -> Result<(), Report
 // Puts the integers of a later class in, the greatest genus first.
 fn put_part(integers: &mut Integers, part: &Part) -> Result<(), ReportError>
     requires { MayTake integers.old part.now }
-    ensures { MatchResult result (λ _. integers.new ≡ record integers.old { integers = section_integers part.now ++ integers.old.integers }) (λ e. e ≡ ReportError.Memory) }
+    ensures { MatchResult result (λ _. integers.new ≡ record integers.old { integers = section_integers part.now ++ integers.old.integers })
+        (λ e. e ≡ ReportError.Memory) }
 {
     let count = part.integers.len();
     if count > MOST_GENERA {
@@ -50,7 +53,8 @@ fn put_part(integers: &mut Integers, part: &Part) -> Result<(), ReportError>
 
 fn put(integers: &mut Integers, part: &Part, integer: &Integer) -> Result<(), ReportError>
     requires { CanPut integers.old part.now integer.now }
-    ensures { MatchResult result (λ _. integers.new ≡ record integers.old { integers = integer_of part.now.section.entries integer.now ∷ integers.old.integers }) (λ e. e ≡ ReportError.Memory) }
+    ensures { MatchResult result (λ _. integers.new ≡ record integers.old { integers = integer_of part.now.section.entries integer.now ∷ integers.old.integers })
+        (λ e. e ≡ ReportError.Memory) }
 {
     integers.known();
     let class = part.class.copy()?;

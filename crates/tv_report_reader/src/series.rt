@@ -88,7 +88,8 @@ fn after(terms: &[Term], next: usize, exponent: i64) -> usize
 
 // Term number k, where it is there and has the exponent.
 fn term_at(terms: &[Term], k: usize, exponent: i64) -> Option<&Term>
-    ensures { MatchOption result (HasExponent (drop k terms.now) exponent → ⊥) (λ t. (rest : List SeenTerm) × (drop k terms.now ≡ t.now ∷ rest) × (t.now.exponent ≡ exponent)) }
+    ensures { MatchOption result (HasExponent (drop k terms.now) exponent → ⊥)
+        (λ t. (rest : List SeenTerm) × (drop k terms.now ≡ t.now ∷ rest) × (t.now.exponent ≡ exponent)) }
 {
     match terms.get(k) {
         Some(term) => {

@@ -42,7 +42,8 @@ fn put_sections(
     sections: &[Part],
 ) -> Result<(), ReportError>
     requires { StartsFamily family.old sections.now }
-    ensures { MatchResult result (λ _. family.new ≡ record family.old { rows = map (row_of family.old.upto) sections.now }) (λ e. e ≡ ReportError.Memory) }
+    ensures { MatchResult result (λ _. family.new ≡ record family.old { rows = map (row_of family.old.upto) sections.now })
+        (λ e. e ≡ ReportError.Memory) }
 {
     for part in sections {
         put_part(alloc, family, part)?;
@@ -52,7 +53,8 @@ fn put_sections(
 
 fn put_part(alloc: Global, family: &mut Graded<Whole>, part: &Part) -> Result<(), ReportError>
     requires { HasSeries family.old part.now }
-    ensures { MatchResult result (λ _. family.new ≡ added wholes part.now.section.entries (series_of family.old.upto part.now.section.terms) family.old) (λ e. e ≡ ReportError.Memory) }
+    ensures { MatchResult result (λ _. family.new ≡ added wholes part.now.section.entries (series_of family.old.upto part.now.section.terms) family.old)
+        (λ e. e ≡ ReportError.Memory) }
 {
     let series = series_of(alloc, family.upto(), &part.terms)?;
     let class = part.class.copy()?;

@@ -1,4 +1,4 @@
-use Rattle.std.proofs.Common.{ℤ, List, ◌∙◌, ap}
+use Rattle.std.proofs.Common.{◌∙◌, ap}
 use Rattle.tv_integers.specs.Kept.{without_integers}
 use Rattle.tv_spec_reports.specs.Grammar.{GvData}
 use Rattle.tv_report_reader.proofs.Putting.{starts-integers}

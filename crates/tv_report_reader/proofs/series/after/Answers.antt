@@ -1,4 +1,4 @@
-use Rattle.std.proofs.Common.{w64, sym, ◌∙◌, subst, ◌+ℤ◌, pos, List}
+use Rattle.std.proofs.Common.{w64, sym, subst, ◌+ℤ◌, pos, List}
 use Rattle.std.proofs.lemmas.Int.{to_z-of_z}
 use Rattle.tv_spec_text.specs.Reports.{Term}
 use Rattle.tv_report_reader.specs.Told.{Cursor}

@@ -1,6 +1,6 @@
-use Rattle.std.proofs.Common.{◌≡◌, ◌≤◌, ◌+ℤ◌, pos, w64, sym, ◌∙◌, ap, arith, refl, unsigned_abs, subst}
+use Rattle.std.proofs.Common.{◌+ℤ◌, pos, w64, ◌∙◌, ap, arith, unsigned_abs}
 use Rattle.std.specs.Int.{w128}
-use Rattle.std.proofs.lemmas.Int.{ints, to_z-of_z}
+use Rattle.std.proofs.lemmas.Int.{to_z-of_z}
 use Rattle.tv_report_reader.proofs.Dense.{filled-start, filled-more, filled-bounded, filled-series, lowest-bound, next-number}
 use Rattle.tv_text.proofs.Spellings.{same_number}
 use Rattle.tv_report_reader.proofs.series.series_of.Goals as goal

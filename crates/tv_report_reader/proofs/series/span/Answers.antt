@@ -1,4 +1,4 @@
-use Rattle.std.proofs.Common.{arith, w64}
+use Rattle.std.proofs.Common.{arith}
 use Rattle.std.proofs.lemmas.Int.{ints}
 use Rattle.tv_laws_series.proofs.Exponents.{above_is}
 use Rattle.tv_report_reader.proofs.series.span.Goals as goal

@@ -1,4 +1,4 @@
-use Rattle.std.proofs.Common.{ℤ, ◌∙◌, ap}
+use Rattle.std.proofs.Common.{◌∙◌, ap}
 use Rattle.tv_spec_reports.specs.Grammar.{GvData}
 use Rattle.tv_report_reader.proofs.Families.{starts, without-as}
 use Rattle.tv_report_reader.proofs.told.family_of.Goals as goal

@@ -1,6 +1,5 @@
 use Rattle.std.proofs.Common.{◌≡◌, map, take}
 use Rattle.tv_report_reader.specs.Told.{row_of}
-use Rattle.tv_report_reader.proofs.Families.{put-section}
 use Rattle.tv_report_reader.proofs.told.put_sections.Given as goal
 
 abbrev pub invariant-loop-part : goal.invariant-loop-part
