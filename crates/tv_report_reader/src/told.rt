@@ -8,6 +8,7 @@ ghost use Rattle.tv_report_reader.specs.Told.{IsTold, row_of, series_of, family_
 
 use crate::fault::ReportError;
 use crate::integers::integers_of;
+use crate::limits::MOST_COEFFICIENTS;
 use crate::part::{Data, Part};
 use crate::series::series_of;
 use std::alloc::Global;
@@ -15,15 +16,39 @@ use tv_graded::Graded;
 use tv_integers::Report;
 use tv_ring::Whole;
 
-/// The report of what is read. It errs only for want of memory, at once where a class spans more than `MOST_EXPONENTS` or has more
-/// than `MOST_GENERA` integers.
+/// The report of what is read. It errs only for want of memory, at once where a class spans more than `MOST_EXPONENTS`, all
+/// classes together more than `MOST_COEFFICIENTS`, or a class has more than `MOST_GENERA` integers.
 pub(crate) fn report_of(alloc: Global, read: Data) -> Result<Report, ReportError>
     requires { GvFits read }
     ensures { MatchResult result (IsTold read) (λ e. e ≡ ReportError.Memory) }
 {
+    if spans_too_much(&read) {
+        return Err(ReportError::Memory);
+    }
     let series = family_of(alloc, &read)?;
     let integers = integers_of(alloc, &read)?;
     Ok(Report { series, integers })
+}
+
+// Whether all classes together span more than `MOST_COEFFICIENTS` exponents. Either answer is right: no clause says when memory is
+// wanting.
+fn spans_too_much(read: &Data) -> bool {
+    let mut left = MOST_COEFFICIENTS;
+    for part in &read.sections {
+        let span = span_to(part, read.upto);
+        if left < span {
+            return true;
+        }
+        left -= span;
+    }
+    false
+}
+
+fn span_to(part: &Part, upto: i64) -> u64 {
+    match part.terms.first() {
+        Some(term) => upto.saturating_sub(term.exponent).unsigned_abs(),
+        None => 0,
+    }
 }
 
 fn family_of(alloc: Global, read: &Data) -> Result<Graded<Whole>, ReportError>
