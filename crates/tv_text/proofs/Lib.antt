@@ -1,4 +1,4 @@
-mod BadLines
+pub mod BadLines
 pub mod Decimals
 pub mod Exact
 mod Parts

@@ -5,7 +5,7 @@
 mod draft;
 pub mod file;
 pub mod laws;
-mod lines;
+pub mod lines;
 pub mod number;
 mod numbers;
 pub mod refusal;

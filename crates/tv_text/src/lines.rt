@@ -7,8 +7,8 @@ ghost use Rattle.tv_spec_text.specs.Lines.{words};
 
 use std::alloc::{AllocError, Global};
 
-// The words of a line: its parts between spaces.
-pub(crate) fn words_of<'a>(alloc: Global, line: &'a [u8]) -> Result<Vec<&'a [u8]>, AllocError>
+/// The words of a line: its parts between spaces. It errs only for want of memory.
+pub fn words_of<'a>(alloc: Global, line: &'a [u8]) -> Result<Vec<&'a [u8]>, AllocError>
     ensures { IfOk result (λ v. map (λ w. w.now) v.items ≡ words line.now) }
 {
     line.split(|byte| *byte == b' ').collect(alloc)
@@ -30,8 +30,8 @@ fn without_return(part: &[u8]) -> &[u8]
     }
 }
 
-// The lines, each of which ends with LF, with CR LF, or with the end of the bytes.
-pub(crate) fn lines_of<'a>(alloc: Global, bytes: &'a [u8]) -> Result<Vec<&'a [u8]>, AllocError>
+/// The lines, each of which ends with LF, with CR LF, or with the end of the bytes. It errs only for want of memory.
+pub fn lines_of<'a>(alloc: Global, bytes: &'a [u8]) -> Result<Vec<&'a [u8]>, AllocError>
     ensures { IfOk result (λ v. map (λ w. w.now) v.items ≡ lines bytes.now) }
 {
     let parts = parts(alloc, bytes)?;

@@ -52,7 +52,8 @@ fn is_first(words: &[&[u8]]) -> bool
     }
 }
 
-fn is_only(words: &[&[u8]], text: &str) -> bool
+/// Whether there is one word, and it is the text.
+pub fn is_only(words: &[&[u8]], text: &str) -> bool
     ensures { IsTrue result ↔ (texts words.now ≡ text.now ∷ []) }
 {
     match after_word(words, text) {
@@ -111,7 +112,8 @@ fn heights_row(alloc: Global, words: &[&[u8]]) -> Result<Option<Vec<i64>>, Alloc
     }
 }
 
-fn numbers(alloc: Global, words: &[&[u8]]) -> Result<Option<Vec<i64>>, AllocError>
+/// The numbers, of at most nine digits, that the words spell; None where a word spells none. It errs only for want of memory.
+pub fn numbers(alloc: Global, words: &[&[u8]]) -> Result<Option<Vec<i64>>, AllocError>
     ensures { IfOk result (λ row. MatchOption row ((hs : List ℤ) → AllByRecursion IsNumber hs → texts words.now ≢ map spelled hs) (λ v. AllByRecursion IsNumber v.items × (texts words.now ≡ map spelled v.items))) }
 {
     let mut numbers = Vec::new(alloc);
@@ -160,7 +162,9 @@ pub fn after_number<'a>(words: &'a [&'a [u8]]) -> Option<(i64, &'a [&'a [u8]])>
     }
 }
 
-fn after_count<'a>(words: &'a [&'a [u8]]) -> Option<(u32, &'a [&'a [u8]])>
+/// The count, of at most nine digits, that the first word spells, and what follows it; None where it spells none, or
+/// there is no word.
+pub fn after_count<'a>(words: &'a [&'a [u8]]) -> Option<(u32, &'a [&'a [u8]])>
     ensures { MatchOption result ((n : ℕ) (ws : List (List ℕ)) → IsCount n → texts words.now ≢ spelled (pos n) ∷ ws) (λ r. IsCount r.0 × (texts words.now ≡ spelled (pos r.0) ∷ texts r.1.now)) }
 {
     match words {

@@ -1,0 +1,7 @@
+pub mod WideNumbers
+pub mod Ends
+pub mod Spelled
+pub mod HeadSteps
+pub mod Sections
+pub mod BodySteps
+pub mod LinesRead
