@@ -1,9 +1,8 @@
 -- What may follow within sections and after them.
-use Rattle.std.proofs.Common.{◌≡◌, ◌≢◌, ℕ, ℤ, pos, zero, suc, ◌<◌, ◌≤◌, ◌≤ℤ◌, ◌⊎◌, inl, inr, List, [], ◌∷◌, ◌++◌, length, map, drop, get_or, refl, sym, ◌∙◌, ap, subst, arith, append_assoc, append-nil, true, length-append}
+use Rattle.std.proofs.Common.{◌≡◌, ◌≢◌, ℕ, ℤ, ◌<◌, ◌≤ℤ◌, ◌⊎◌, inl, inr, List, [], ◌∷◌, ◌++◌, length, map, drop, get_or, refl, sym, ◌∙◌, ap, subst, arith, append_assoc, append-nil, length-append}
 use Rattle.std.proofs.lemmas.Int.{ints}
 use Rattle.std.specs.List.{AllByRecursion}
-use Rattle.tv_lemmas.proofs.Members.{all-append, all-front, all-back}
-use Rattle.tv_spec_plane.specs.Web.{degree_of}
+use Rattle.tv_lemmas.proofs.Members.{all-append, all-back}
 use Rattle.tv_spec_boxes.specs.Classes.{IsBefore, ClassesRise}
 use Rattle.tv_spec_text.specs.Lines.{Line, IsNumber}
 use Rattle.tv_spec_text.specs.Files.{end_line}
@@ -11,12 +10,12 @@ use Rattle.tv_spec_text.specs.Reports.{Term, Rises, term_line}
 use Rattle.tv_spec_reports.specs.IntegerLines.{GenusValue, GvSection, integer_line}
 use Rattle.tv_spec_reports.specs.Grammar.{GvData, GvTermFits, IntegerFits, GeneraRise, SectionFits, SectionsFit, GvFits}
 use Rattle.tv_report_reader.specs.Rows.{class_words, TermFits, IsNoRow}
-use Rattle.tv_report_reader.specs.Checks.{section_by, HeightsFit, DegreeFits, OrderFits, RisesTo, GeneraRiseTo, is_later, Opens}
-use Rattle.tv_report_reader.specs.Stages.{Seen, shell, data_of, AreSound, HasClosed, Fitting, IsWithinSection, lines_from, Agrees, grown, RestTerms, RestIntegers, RestClosed, Rest, Leads, Stops}
+use Rattle.tv_report_reader.specs.Checks.{section_by, HeightsFit, DegreeFits, OrderFits, RisesTo, GeneraRiseTo, Opens}
+use Rattle.tv_report_reader.specs.Stages.{Seen, shell, AreSound, HasClosed, Fitting, IsWithinSection, lines_from, Agrees, grown, RestIntegers, RestClosed, Rest, Leads, Stops}
 use Rattle.tv_report_reader.specs.declared.stage.Stage.{Stage}
 use Rattle.tv_report_reader.specs.declared.stage.Stage.TheVariants.{Closed, Terms, Integers, Done}
 use Rattle.tv_report_reader.proofs.Ends.{Rises-push, Rises-at, GeneraRise-push, GeneraRise-at}
-use Rattle.tv_report_reader.proofs.Spelled.{bounded_number, class_injective, term_injective, integer_injective}
+use Rattle.tv_report_reader.proofs.Spelled.{bounded_number, class_injective, term_injective, integer_injective, first, others}
 use Rattle.tv_spec_boxes.specs.Assignments.{zeros}
 use Rattle.tv_report_reader.proofs.Sections.{refit, all-refit, section-at, sections-push, sections-front, rise-push, rise-at, same-classes, opened-degree, before-later, later-before, lines-none, lines-some}
 
@@ -34,18 +33,12 @@ later-kind (p ∷ ps) = inr (ap kind (lines-some p ps))
 no-term-later : (later : List GvSection) → kind (lines_from later) ≢ 4
 no-term-later later e = let k = later-kind later in grind arith
 
-no-integer-later : (later : List GvSection) → kind (lines_from later) ≢ 7
+pub no-integer-later : (later : List GvSection) → kind (lines_from later) ≢ 7
 no-integer-later later e = let k = later-kind later in grind arith
 
-no-term-integers : (is : List GenusValue) (later : List GvSection) → kind (map integer_line is ++ lines_from later) ≢ 4
+pub no-term-integers : (is : List GenusValue) (later : List GvSection) → kind (map integer_line is ++ lines_from later) ≢ 4
 no-term-integers [] later e = no-term-later later e
 no-term-integers (i ∷ is) later e = absurd (omega arith)
-
-first : (k l : Line) (ks ls : List Line) → k ∷ ks ≡ l ∷ ls → k ≡ l
-first k l ks ls e = ap (λ xs. get_or xs 0 []) e
-
-others : (k l : Line) (ks ls : List Line) → k ∷ ks ≡ l ∷ ls → ks ≡ ls
-others k l ks ls e = ap (drop 1) e
 
 -- the same header
 

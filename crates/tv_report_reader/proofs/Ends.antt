@@ -1,5 +1,5 @@
 -- The last item of a list decides what may follow.
-use Rattle.std.proofs.Common.{◌≡◌, ℕ, ℤ, suc, ◌-◌, ◌<◌, List, [], ◌∷◌, ◌++◌, length, refl, sym, ◌∙◌, ap, subst, arith, ◌<ℤ◌}
+use Rattle.std.proofs.Common.{◌≡◌, ℕ, ℤ, suc, ◌-◌, ◌<◌, List, [], ◌∷◌, ◌++◌, length, sym, ◌∙◌, ap, subst, arith, ◌<ℤ◌}
 use Rattle.std.specs.Prelude.{Some, slice_get}
 use Rattle.tv_spec_text.specs.Reports.{Term, Rises}
 use Rattle.tv_spec_reports.specs.IntegerLines.{GenusValue}

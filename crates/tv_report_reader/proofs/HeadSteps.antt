@@ -1,5 +1,5 @@
 -- What may follow in the lines up to the term of class zero.
-use Rattle.std.proofs.Common.{◌≡◌, ◌≢◌, ℕ, ℤ, pos, ◌<◌, ◌≤◌, ◌≤ℤ◌, List, [], ◌∷◌, ◌++◌, length, map, drop, get_or, refl, sym, ◌∙◌, ap, subst, arith}
+use Rattle.std.proofs.Common.{◌≡◌, ◌≢◌, ℤ, pos, List, [], ◌∷◌, ◌++◌, length, map, drop, get_or, refl, sym, ◌∙◌, ap, subst, arith}
 use Rattle.std.proofs.lemmas.Int.{ints}
 use Rattle.std.specs.List.{AllByRecursion}
 use Rattle.tv_spec_boxes.specs.Assignments.{zeros}
@@ -7,15 +7,15 @@ use Rattle.tv_spec_boxes.specs.Classes.{ClassesRise}
 use Rattle.tv_spec_text.specs.Lines.{Line, IsNumber}
 use Rattle.tv_spec_text.specs.Files.{heights_line}
 use Rattle.tv_spec_text.specs.Reports.{Term, term_line}
-use Rattle.tv_spec_reports.specs.IntegerLines.{GenusValue, GvSection}
-use Rattle.tv_spec_reports.specs.Grammar.{GvData, FirstSection, SectionsFit, GvFits}
+use Rattle.tv_spec_reports.specs.IntegerLines.{GvSection}
+use Rattle.tv_spec_reports.specs.Grammar.{GvData, SectionsFit, GvFits}
 use Rattle.tv_text.specs.Sections.{degree_line, upto_line}
 use Rattle.tv_report_reader.specs.Rows.{title_line, class_words, TermFits}
 use Rattle.tv_report_reader.specs.Checks.{section_by, HeightsFit, DegreeFits, OrderFits, IsZeroClass}
-use Rattle.tv_report_reader.specs.Stages.{Seen, zero_section, IsFresh, AreSound, lines_from, one_line, from_heights, from_degree, from_upto, from_zero, Agrees, RestClosed, Leads, Stops}
+use Rattle.tv_report_reader.specs.Stages.{Seen, zero_section, IsFresh, AreSound, lines_from, one_line, from_zero, Agrees, Leads, Stops}
 use Rattle.tv_report_reader.specs.declared.stage.Stage.{Stage}
 use Rattle.tv_report_reader.specs.declared.stage.Stage.TheVariants.{Opening, Heights, Degree, Upto, Zero, One, Closed}
-use Rattle.tv_report_reader.proofs.Spelled.{small_numbers, bounded_number, zeros_numbers, zeros-all, all-zeros, length-zeros, heights_injective, degree_injective, upto_injective, class_injective, term_injective}
+use Rattle.tv_report_reader.proofs.Spelled.{small_numbers, bounded_number, zeros_numbers, zeros-all, all-zeros, length-zeros, heights_injective, degree_injective, upto_injective, class_injective, term_injective, first, others}
 
 -- the stage and the line by other names
 
@@ -24,12 +24,6 @@ Leads-as g k s l m h t e f x = subst (λ (j : Stage). Leads j s l h t) (sym e) (
 
 pub Stops-as : (g k : Stage) (s : Seen) (l m : Line) → g ≡ k → l ≡ m → Stops k s m → Stops g s l
 Stops-as g k s l m e f x = subst (λ (j : Stage). Stops j s l) (sym e) (subst (λ (n : Line). Stops k s n) (sym f) x)
-
-first : (k l : Line) (ks ls : List Line) → k ∷ ks ≡ l ∷ ls → k ≡ l
-first k l ks ls e = ap (λ xs. get_or xs 0 []) e
-
-others : (k l : Line) (ks ls : List Line) → k ∷ ks ≡ l ∷ ls → ks ≡ ls
-others k l ks ls e = ap (drop 1) e
 
 -- what the grammar asks of the data
 
@@ -116,7 +110,7 @@ upto-unfit s z number unfit = λ f d more fits rest. unfit (subst OrderFits (upt
 
 -- class zero
 
-section-same : (p q : GvSection) → p.section.degree ≡ q.section.degree → p.section.entries ≡ q.section.entries → p.section.terms ≡ q.section.terms → p.integers ≡ q.integers → p ≡ q
+pub section-same : (p q : GvSection) → p.section.degree ≡ q.section.degree → p.section.entries ≡ q.section.entries → p.section.terms ≡ q.section.terms → p.integers ≡ q.integers → p ≡ q
 section-same p q a b c e =
     ap (λ z. section_by z p.section.entries p.section.terms p.integers) a
     ∙ ap (λ v. section_by q.section.degree v p.section.terms p.integers) b

@@ -5,3 +5,8 @@ pub mod HeadSteps
 pub mod Sections
 pub mod BodySteps
 pub mod LinesRead
+pub mod Dense
+pub mod Families
+pub mod Putting
+pub mod Readings
+mod Values

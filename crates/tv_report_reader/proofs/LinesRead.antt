@@ -1,8 +1,7 @@
 -- What is read so far, one line further, and the place of the first line with which no report goes on.
-use Rattle.std.proofs.Common.{◌≡◌, ◌≢◌, ℕ, ℤ, pos, negsuc, ◌+◌, ◌<◌, ◌≤◌, List, [], ◌∷◌, ◌++◌, length, map, take, drop, get_or, refl, sym, ◌∙◌, ap, subst, arith, append_assoc, append-nil, add-one}
+use Rattle.std.proofs.Common.{◌≡◌, ◌≢◌, ℕ, ℤ, pos, ◌+◌, ◌<◌, List, [], ◌∷◌, ◌++◌, length, map, take, refl, sym, ◌∙◌, ap, subst, arith, append_assoc, append-nil, add-one}
 use Rattle.std.proofs.lemmas.Int.{ints}
 use Rattle.std.proofs.lemmas.List.{take_all}
-use Rattle.std.specs.List.{AllByRecursion}
 use Rattle.tv_spec_text.specs.Places.{Begins, IsPlace}
 use Rattle.tv_spec_text.specs.Lines.{Line}
 use Rattle.tv_spec_text.specs.Reports.{Term, term_line}
@@ -10,13 +9,13 @@ use Rattle.tv_spec_reports.specs.IntegerLines.{GenusValue, GvSection, integer_li
 use Rattle.tv_spec_reports.specs.Grammar.{GvData, GvFits, SpellsGv, IsGv}
 use Rattle.tv_report_reader.specs.Rows.{title_line}
 use Rattle.tv_report_reader.specs.Checks.{section_by, HeightsFit, DegreeFits, OrderFits}
-use Rattle.tv_report_reader.specs.Stages.{Seen, data_of, zero_section, IsFresh, AreSound, Fitting, lines_from, one_line, from_heights, from_degree, from_upto, from_zero, Agrees, Rest, Leads, Stops, IsAt}
+use Rattle.tv_report_reader.specs.Stages.{Seen, data_of, zero_section, IsFresh, lines_from, one_line, from_heights, from_degree, from_upto, from_zero, Rest, Leads, Stops, IsAt}
 use Rattle.tv_report_reader.specs.declared.stage.Stage.{Stage}
 use Rattle.tv_report_reader.specs.declared.stage.Stage.TheVariants.{Opening, Heights, Degree, Upto, Zero, One, Closed, Terms, Integers, Done}
 use Rattle.tv_report_reader.proofs.Sections.{sound-fits, lines-none, lines-some}
 use Rattle.tv_report_reader.proofs.BodySteps.{grown-none, with-class}
 
-all_lines : (d : GvData) → gv_lines d.heights d.degree d.upto d.sections ≡ title_line ∷ from_heights d
+pub all_lines : (d : GvData) → gv_lines d.heights d.degree d.upto d.sections ≡ title_line ∷ from_heights d
 unfolding lines_from
 all_lines d = refl
 

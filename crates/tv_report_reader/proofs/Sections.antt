@@ -1,23 +1,18 @@
 -- Sections of a report: what the grammar asks of one more, and of the last one.
-use Rattle.std.proofs.Common.{◌≡◌, ◌≢◌, ℕ, ℤ, pos, suc, ◌<◌, ◌≤◌, ◌≤ℤ◌, ◌<ℤ◌, ◌⊎◌, inl, inr, List, [], ◌∷◌, ◌++◌, length, map, drop, refl, sym, ◌∙◌, ap, subst, arith, append_assoc, append-nil, Bool, true, int_lt, ◌&&◌, ◌||◌}
-use Rattle.std.proofs.lemmas.Int.{ints}
-use Rattle.std.proofs.lemmas.List.{map-append}
+use Rattle.std.proofs.Common.{◌≡◌, ℤ, ◌<◌, ◌≤ℤ◌, List, [], ◌∷◌, ◌++◌, length, map, drop, refl, sym, ◌∙◌, ap, subst, arith, append_assoc, true}
 use Rattle.std.specs.List.{AllByRecursion}
-use Rattle.std.specs.Ordering.{int_eq}
 use Rattle.tv_lemmas.proofs.Members.{all-append, all-front, all-back, all-onto}
 use Rattle.tv_spec_plane.specs.Web.{degree_of}
-use Rattle.tv_spec_boxes.specs.Assignments.{zeros}
 use Rattle.tv_spec_boxes.specs.Classes.{IsBefore, ClassesRise}
-use Rattle.tv_spec_series.specs.Families.{comes_before, entries_before}
+use Rattle.tv_spec_series.specs.Families.{comes_before}
 use Rattle.tv_spec_series.proofs.Order.{comes_before_is, comes_before-true, comes_before_tells}
 use Rattle.tv_laws_families.proofs.ZeroClass.{degree-zeros}
-use Rattle.tv_spec_text.specs.Lines.{Line}
 use Rattle.tv_spec_text.specs.Files.{end_line}
-use Rattle.tv_spec_text.specs.Reports.{Term, term_line}
-use Rattle.tv_spec_reports.specs.IntegerLines.{GvSection, integer_line, gv_section_lines}
+use Rattle.tv_spec_text.specs.Reports.{term_line}
+use Rattle.tv_spec_reports.specs.IntegerLines.{GvSection, integer_line}
 use Rattle.tv_spec_reports.specs.Grammar.{GvData, GvTermFits, SectionFits, SectionsFit, GvFits}
 use Rattle.tv_report_reader.specs.Rows.{class_words}
-use Rattle.tv_report_reader.specs.Checks.{section_by, HeightsFit, DegreeFits, OrderFits, is_later, Opens}
+use Rattle.tv_report_reader.specs.Checks.{is_later}
 use Rattle.tv_report_reader.specs.Stages.{Seen, shell, data_of, AreSound, lines_from, Agrees}
 
 -- the data enters only by its heights, degree and last exponent
@@ -51,9 +46,6 @@ sections-front d [] more h fits = absurd (omega arith)
 sections-front d (z ∷ ps) more h fits = (fits.0, all-front (SectionFits d) ps more fits.1)
 
 -- classes that rise
-
-entries : GvSection → List ℤ
-entries p = p.section.entries
 
 pub rise-push : (hs : List ℤ) (ps : List GvSection) (p q : GvSection) → ClassesRise hs (map (λ (x : GvSection). x.section.entries) (ps ++ p ∷ [])) → IsBefore hs p.section.entries q.section.entries → ClassesRise hs (map (λ (x : GvSection). x.section.entries) ((ps ++ p ∷ []) ++ q ∷ []))
 rise-push hs [] p q r h = (h, tt)

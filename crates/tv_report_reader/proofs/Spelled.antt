@@ -1,5 +1,5 @@
 -- Lines of a report spell one thing each.
-use Rattle.std.proofs.Common.{◌≡◌, ℕ, ℤ, pos, negsuc, zero, suc, ◌<◌, ◌≤◌, ◌≤ℤ◌, ◌^◌, List, [], ◌∷◌, ◌++◌, length, map, drop, get_or, refl, sym, ◌∙◌, ap, arith, unsigned_abs}
+use Rattle.std.proofs.Common.{◌≡◌, ℕ, ℤ, pos, negsuc, zero, suc, ◌≤◌, ◌≤ℤ◌, List, [], ◌∷◌, length, map, drop, get_or, refl, sym, ◌∙◌, ap, arith, unsigned_abs}
 use Rattle.std.proofs.lemmas.Int.{ints}
 use Rattle.std.specs.List.{AllByRecursion}
 use Rattle.tv_lemmas.proofs.Members.{all-onto}
@@ -60,6 +60,14 @@ all-zeros (suc n) = (refl, all-zeros n)
 pub length-zeros : (n : ℕ) → length (zeros n) ≡ n
 length-zeros zero = refl
 length-zeros (suc n) = let rest = length-zeros n in omega arith
+
+-- equal lists of lines
+
+pub first : (k l : Line) (ks ls : List Line) → k ∷ ks ≡ l ∷ ls → k ≡ l
+first k l ks ls e = ap (λ xs. get_or xs 0 []) e
+
+pub others : (k l : Line) (ks ls : List Line) → k ∷ ks ≡ l ∷ ls → ks ≡ ls
+others k l ks ls e = ap (drop 1) e
 
 -- the words of a line behind the first
 

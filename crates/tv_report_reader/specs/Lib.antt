@@ -4,3 +4,4 @@ pub mod Rows
 pub mod Checks
 pub mod Stages
 pub mod Drafts
+pub mod Laws

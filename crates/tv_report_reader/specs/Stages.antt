@@ -19,8 +19,8 @@
 -- Rest g s d more   == after what is read up to stage g, which says s, the lines `more` end the report of d
 -- Leads, Stops      == after what is read the line leads on; no report goes on with the line
 -- IsAt g s ls       == the lines ls are read up to stage g, and say s
-use Rattle.std.specs.Prelude.{◌≡◌, ℕ, ◌<◌, ◌≤◌, ℤ, pos, ◌≤ℤ◌, List, [], ◌∷◌, ◌++◌, length, map, drop, ⊤}
-use Rattle.std.specs.List.{AllByRecursion, flat_map}
+use Rattle.std.specs.Prelude.{◌≡◌, ◌<◌, ℤ, pos, List, [], ◌∷◌, ◌++◌, length, map, drop, ⊤}
+use Rattle.std.specs.List.{flat_map}
 use Rattle.tv_spec_boxes.specs.Assignments.{zeros}
 use Rattle.tv_spec_boxes.specs.Classes.{ClassesRise}
 use Rattle.tv_spec_text.specs.Lines.{Line}

@@ -1,11 +1,11 @@
-//! ReportHeights within their limits. They do not know the points they belong to.
+//! Heights within their limits. They do not know the points they belong to.
 
-ghost use Rattle.std.specs.Prelude.{◌≡◌, [], ◌≤◌, length};
+ghost use Rattle.std.specs.Prelude.{◌≡◌, [], ◌≤◌, length, IfOk};
 ghost use Rattle.std.specs.List.{AllByRecursion};
 ghost use Rattle.tv_lattice.specs.Limits.{IsHeight};
 ghost use Rattle.tv_report_reader.specs.Checks.{HeightsFit};
 
-use std::alloc::Global;
+use std::alloc::{AllocError, Global};
 use std::marker::Model;
 
 /// At most 64 heights, each within its limit.
@@ -50,10 +50,11 @@ impl ReportHeights {
         &self.values
     }
 
-    pub(crate) fn into_values(self) -> Vec<i64>
-        ensures value { result.items ≡ self }
-        ensures small { AllByRecursion IsHeight result.items }
+    /// The values once more. It errs only for want of memory.
+    pub(crate) fn copy(&self, alloc: Global) -> Result<Vec<i64>, AllocError>
+        ensures value { IfOk result (λ v. v.items ≡ self.now) }
+        ensures small { IfOk result (λ v. AllByRecursion IsHeight v.items) }
     {
-        self.values
+        self.values.to_vec(alloc)
     }
 }

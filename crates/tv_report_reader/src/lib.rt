@@ -5,10 +5,13 @@ mod checks;
 mod draft;
 mod fault;
 mod heights;
+mod integers;
+pub mod laws;
 pub mod limits;
 mod part;
 mod reading;
 mod row;
+mod series;
 mod stage;
 mod steps;
 mod told;
@@ -16,3 +19,6 @@ mod wide;
 
 pub use fault::ReportError;
 pub use reading::read_report;
+
+#[cfg(test)]
+mod tests;

@@ -38,7 +38,8 @@ pub(crate) fn is_title(words: &[&[u8]]) -> bool
 
 /// The heights, where the words are those of their line.
 pub(crate) fn heights_row(alloc: Global, words: &[&[u8]]) -> Result<Option<Vec<i64>>, AllocError>
-    ensures { IfOk result (λ row. MatchOption row ((hs : List ℤ) → AllByRecursion IsNumber hs → texts words.now ≢ heights_line hs) (λ v. AllByRecursion IsNumber v.items × (texts words.now ≡ heights_line v.items))) }
+    ensures { IfOk result (λ row. MatchOption row ((hs : List ℤ) → AllByRecursion IsNumber hs → texts words.now ≢ heights_line hs)
+        (λ v. AllByRecursion IsNumber v.items × (texts words.now ≡ heights_line v.items))) }
 {
     match after_word(words, "heights") {
         Some(rest) => numbers(alloc, rest),
@@ -48,7 +49,8 @@ pub(crate) fn heights_row(alloc: Global, words: &[&[u8]]) -> Result<Option<Vec<i
 
 /// The greatest degree, where the words are those of its line.
 pub(crate) fn degree_row(words: &[&[u8]]) -> Option<i64>
-    ensures { MatchOption result ((z : ℤ) → IsNumber z → texts words.now ≢ degree_line z) (λ z. IsNumber z × (texts words.now ≡ degree_line z)) }
+    ensures { MatchOption result ((z : ℤ) → IsNumber z → texts words.now ≢ degree_line z)
+        (λ z. IsNumber z × (texts words.now ≡ degree_line z)) }
 {
     let rest = after_word(words, "degree")?;
     last_number(rest)
@@ -56,14 +58,16 @@ pub(crate) fn degree_row(words: &[&[u8]]) -> Option<i64>
 
 /// The last exponent, where the words are those of its line.
 pub(crate) fn upto_row(words: &[&[u8]]) -> Option<i64>
-    ensures { MatchOption result ((z : ℤ) → IsNumber z → texts words.now ≢ upto_line z) (λ z. IsNumber z × (texts words.now ≡ upto_line z)) }
+    ensures { MatchOption result ((z : ℤ) → IsNumber z → texts words.now ≢ upto_line z)
+        (λ z. IsNumber z × (texts words.now ≡ upto_line z)) }
 {
     let rest = after_word(words, "upto")?;
     last_number(rest)
 }
 
 fn last_number(words: &[&[u8]]) -> Option<i64>
-    ensures { MatchOption result ((z : ℤ) → IsNumber z → texts words.now ≢ spelled z ∷ []) (λ z. IsNumber z × (texts words.now ≡ spelled z ∷ [])) }
+    ensures { MatchOption result ((z : ℤ) → IsNumber z → texts words.now ≢ spelled z ∷ [])
+        (λ z. IsNumber z × (texts words.now ≡ spelled z ∷ [])) }
 {
     let Some((z, rest)) = after_number(words) else {
         return None;
@@ -76,7 +80,8 @@ pub(crate) fn class_row(
     alloc: Global,
     words: &[&[u8]],
 ) -> Result<Option<(i64, Vec<i64>)>, AllocError>
-    ensures { IfOk result (λ row. MatchOption row ((z : ℤ) (v : List ℤ) → IsNumber z → AllByRecursion IsNumber v → texts words.now ≢ class_words z v) (λ r. IsNumber r.0 × AllByRecursion IsNumber r.1.items × (texts words.now ≡ class_words r.0 r.1.items))) }
+    ensures { IfOk result (λ row. MatchOption row ((z : ℤ) (v : List ℤ) → IsNumber z → AllByRecursion IsNumber v → texts words.now ≢ class_words z v)
+        (λ r. IsNumber r.0 × AllByRecursion IsNumber r.1.items × (texts words.now ≡ class_words r.0 r.1.items))) }
 {
     let Some(rest) = after_word(words, "class") else {
         return Ok(None);
@@ -92,7 +97,8 @@ pub(crate) fn class_row(
 
 /// The term, where the words are those of its line.
 pub(crate) fn term_row(words: &[&[u8]]) -> Option<Term>
-    ensures { MatchOption result ((t : SeenTerm) → TermFits t → texts words.now ≢ term_line t) (λ t. TermFits t × (texts words.now ≡ term_line t)) }
+    ensures { MatchOption result ((t : SeenTerm) → TermFits t → texts words.now ≢ term_line t)
+        (λ t. TermFits t × (texts words.now ≡ term_line t)) }
 {
     let Some(rest) = after_word(words, "term") else {
         return None;
@@ -110,7 +116,8 @@ pub(crate) fn term_row(words: &[&[u8]]) -> Option<Term>
 }
 
 fn integer_row(words: &[&[u8]]) -> Option<Integer>
-    ensures { MatchOption result ((i : GenusValue) → IntegerFits i → texts words.now ≢ integer_line i) (λ i. IntegerFits i × (texts words.now ≡ integer_line i)) }
+    ensures { MatchOption result ((i : GenusValue) → IntegerFits i → texts words.now ≢ integer_line i)
+        (λ i. IntegerFits i × (texts words.now ≡ integer_line i)) }
 {
     let Some(rest) = after_word(words, "integer") else {
         return None;
@@ -125,7 +132,8 @@ fn integer_row(words: &[&[u8]]) -> Option<Integer>
 }
 
 fn last_wide(words: &[&[u8]]) -> Option<i128>
-    ensures { MatchOption result ((z : ℤ) → IsWideValue z → texts words.now ≢ spelled z ∷ []) (λ z. IsWideValue z × (texts words.now ≡ spelled z ∷ [])) }
+    ensures { MatchOption result ((z : ℤ) → IsWideValue z → texts words.now ≢ spelled z ∷ [])
+        (λ z. IsWideValue z × (texts words.now ≡ spelled z ∷ [])) }
 {
     match words {
         [word] => wide(word),

@@ -23,7 +23,8 @@ pub(crate) fn wide(word: &[u8]) -> Option<i128>
 }
 
 fn below_zero(digits: &[u8]) -> Option<i128>
-    ensures { MatchOption result ((z : ℤ) → IsWideValue z → 45 ∷ digits.now ≢ spelled z) (λ z. IsWideValue z × (45 ∷ digits.now ≡ spelled z)) }
+    ensures { MatchOption result ((z : ℤ) → IsWideValue z → 45 ∷ digits.now ≢ spelled z)
+        (λ z. IsWideValue z × (45 ∷ digits.now ≡ spelled z)) }
 {
     match magnitude(digits) {
         Some(n) => Some(-(n as i128)),
@@ -32,7 +33,8 @@ fn below_zero(digits: &[u8]) -> Option<i128>
 }
 
 fn magnitude(word: &[u8]) -> Option<u128>
-    ensures { MatchOption result ((n : ℕ) → 0 < n → n ≤ 2 ^ 127 - 1 → word.now ≢ spelled (pos n)) (λ n. (0 < n) × (n ≤ 2 ^ 127 - 1) × (word.now ≡ spelled (pos n))) }
+    ensures { MatchOption result ((n : ℕ) → 0 < n → n ≤ 2 ^ 127 - 1 → word.now ≢ spelled (pos n))
+        (λ n. (0 < n) × (n ≤ 2 ^ 127 - 1) × (word.now ≡ spelled (pos n))) }
 {
     if word.is_empty() {
         return None;
@@ -44,7 +46,8 @@ fn magnitude(word: &[u8]) -> Option<u128>
 }
 
 fn digits(word: &[u8]) -> Option<u128>
-    ensures { MatchOption result (AllDigits 10 word.now → 2 ^ 127 - 1 < digits_value 10 word.now) (λ n. AllDigits 10 word.now × (n ≡ digits_value 10 word.now) × (n ≤ 2 ^ 127 - 1)) }
+    ensures { MatchOption result (AllDigits 10 word.now → 2 ^ 127 - 1 < digits_value 10 word.now)
+        (λ n. AllDigits 10 word.now × (n ≡ digits_value 10 word.now) × (n ≤ 2 ^ 127 - 1)) }
 {
     let mut value = 0u128;
     for byte in word {

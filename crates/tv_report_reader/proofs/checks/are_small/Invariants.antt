@@ -1,4 +1,4 @@
-use Rattle.std.proofs.Common.{◌≡◌, ◌↔◌, pos, drop}
+use Rattle.std.proofs.Common.{◌↔◌, drop}
 use Rattle.std.specs.List.{AllByRecursion}
 use Rattle.tv_lattice.specs.Limits.{IsHeight}
 use Rattle.tv_report_reader.proofs.checks.are_small.Given as goal

@@ -1,6 +1,5 @@
 use Rattle.std.proofs.Common.{◌≡◌, ◌↔◌, pos, drop}
 use Rattle.std.specs.List.{AllByRecursion}
-use Rattle.tv_lattice.specs.Limits.{IsHeight}
 use Rattle.tv_report_reader.proofs.checks.are_zero.Given as goal
 
 abbrev pub invariant-loop-entry : goal.invariant-loop-entry

@@ -1,4 +1,4 @@
-use Rattle.std.proofs.Common.{◌≡◌, sym}
+use Rattle.std.proofs.Common.{sym}
 use Rattle.tv_report_reader.proofs.Ends.{RisesTo-last}
 use Rattle.tv_report_reader.proofs.checks.rises_to.Goals as goal
 

@@ -6,7 +6,7 @@ use Rattle.tv_text.proofs.BadLines.{one_line_more, as_many}
 use Rattle.tv_report_reader.specs.Drafts.{seen_of}
 use Rattle.tv_report_reader.specs.Faults.{IsLineFault}
 use Rattle.tv_report_reader.specs.Stages.{IsAt}
-use Rattle.tv_report_reader.specs.declared.stage.Stage.TheVariants.{Opening, Done}
+use Rattle.tv_report_reader.specs.declared.stage.Stage.TheVariants.{Done}
 use Rattle.tv_report_reader.proofs.LinesRead.{IsAt-start, IsAt-leads, IsAt-done, place-within, place-at-end}
 use Rattle.tv_report_reader.proofs.reading.read_lines.Goals as goal
 

@@ -1,4 +1,4 @@
-use Rattle.std.proofs.Common.{◌≡◌, w64, refl, sym, ◌∙◌, ap}
+use Rattle.std.proofs.Common.{w64, refl, sym, ◌∙◌, ap}
 use Rattle.std.proofs.lemmas.Int.{to_z-of_z}
 use Rattle.tv_report_reader.specs.Drafts.{seen_of}
 use Rattle.tv_report_reader.proofs.LinesRead.{same-seen}

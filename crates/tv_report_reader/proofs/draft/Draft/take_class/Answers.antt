@@ -1,7 +1,6 @@
-use Rattle.std.proofs.Common.{◌≡◌, ℤ, List, refl, sym, ◌∙◌, ap, subst, length, arith, true}
+use Rattle.std.proofs.Common.{◌≡◌, refl, sym, ap, subst, length, arith}
 use Rattle.tv_text.proofs.Spellings.{same_number}
 use Rattle.tv_report_reader.specs.Drafts.{seen_of}
-use Rattle.tv_report_reader.specs.Checks.{section_by, Opens}
 use Rattle.tv_report_reader.specs.Stages.{Seen, Leads}
 use Rattle.tv_report_reader.specs.Rows.{class_words}
 use Rattle.tv_report_reader.specs.declared.stage.Stage.TheVariants.{Terms}

@@ -1,7 +1,5 @@
-use Rattle.std.proofs.Common.{refl, sym, ◌∙◌, ap, subst, true}
+use Rattle.std.proofs.Common.{refl}
 use Rattle.tv_text.proofs.Spellings.{same_number}
-use Rattle.tv_report_reader.specs.Drafts.{seen_of}
-use Rattle.tv_report_reader.specs.Checks.{DegreeFits}
 use Rattle.tv_report_reader.proofs.HeadSteps.{Leads-as, Stops-as, degree-leads, degree-stops, degree-unfit}
 use Rattle.tv_report_reader.specs.declared.stage.Stage.TheVariants.{Degree}
 use Rattle.tv_report_reader.proofs.draft.Draft.take_degree.Goals as goal

@@ -1,4 +1,4 @@
-use Rattle.std.proofs.Common.{refl, sym, subst, true}
+use Rattle.std.proofs.Common.{refl, sym, subst}
 use Rattle.tv_report_reader.specs.Checks.{HeightsFit}
 use Rattle.tv_report_reader.proofs.HeadSteps.{Leads-as, Stops-as, heights-leads, heights-stops, heights-unfit}
 use Rattle.tv_report_reader.specs.declared.stage.Stage.TheVariants.{Heights}

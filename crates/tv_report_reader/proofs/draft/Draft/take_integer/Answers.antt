@@ -1,4 +1,4 @@
-use Rattle.std.proofs.Common.{refl, true}
+use Rattle.std.proofs.Common.{refl}
 use Rattle.tv_report_reader.specs.Drafts.{seen_of}
 use Rattle.tv_report_reader.specs.declared.stage.Stage.TheVariants.{Closed}
 use Rattle.tv_report_reader.proofs.HeadSteps.{Stops-as}

@@ -1,4 +1,4 @@
-use Rattle.std.proofs.Common.{refl, sym, ◌∙◌, ap, subst, true}
+use Rattle.std.proofs.Common.{refl}
 use Rattle.tv_report_reader.proofs.HeadSteps.{Leads-as, Stops-as, one-leads, one-stops, one-unfit}
 use Rattle.tv_report_reader.specs.declared.stage.Stage.TheVariants.{One}
 use Rattle.tv_report_reader.proofs.draft.Draft.take_one.Goals as goal

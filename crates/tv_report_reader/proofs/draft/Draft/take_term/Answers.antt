@@ -1,9 +1,8 @@
-use Rattle.std.proofs.Common.{refl, sym, subst, true}
+use Rattle.std.proofs.Common.{refl}
 use Rattle.tv_text.proofs.Spellings.{same_number}
 use Rattle.tv_report_reader.specs.Drafts.{seen_of}
-use Rattle.tv_report_reader.specs.Checks.{RisesTo}
 use Rattle.tv_report_reader.specs.declared.stage.Stage.TheVariants.{Terms}
-use Rattle.tv_report_reader.proofs.HeadSteps.{Leads-as, Stops-as}
+use Rattle.tv_report_reader.proofs.HeadSteps.{Stops-as}
 use Rattle.tv_report_reader.proofs.BodySteps.{term-leads, term-unfit, term-stops, upto-number}
 use Rattle.tv_report_reader.proofs.draft.Draft.take_term.Goals as goal
 

@@ -1,4 +1,4 @@
-use Rattle.std.proofs.Common.{refl, true}
+use Rattle.std.proofs.Common.{refl}
 use Rattle.tv_report_reader.proofs.HeadSteps.{Leads-as, Stops-as, title-leads, title-stops}
 use Rattle.tv_report_reader.specs.declared.stage.Stage.TheVariants.{Opening}
 use Rattle.tv_report_reader.proofs.draft.Draft.take_title.Goals as goal

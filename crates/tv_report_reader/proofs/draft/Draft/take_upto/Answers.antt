@@ -1,7 +1,5 @@
-use Rattle.std.proofs.Common.{refl, sym, ◌∙◌, ap, subst, true}
+use Rattle.std.proofs.Common.{refl}
 use Rattle.tv_text.proofs.Spellings.{same_number}
-use Rattle.tv_report_reader.specs.Drafts.{seen_of}
-use Rattle.tv_report_reader.specs.Checks.{OrderFits}
 use Rattle.tv_report_reader.proofs.HeadSteps.{Leads-as, Stops-as, upto-leads, upto-stops, upto-unfit}
 use Rattle.tv_report_reader.specs.declared.stage.Stage.TheVariants.{Upto}
 use Rattle.tv_report_reader.proofs.draft.Draft.take_upto.Goals as goal

@@ -1,4 +1,4 @@
-use Rattle.std.proofs.Common.{refl, sym, ◌∙◌, ap, length, arith, true}
+use Rattle.std.proofs.Common.{refl, ap, length, arith}
 use Rattle.tv_text.proofs.Spellings.{same_number}
 use Rattle.tv_report_reader.specs.declared.stage.Stage.TheVariants.{Zero}
 use Rattle.tv_report_reader.proofs.Spelled.{numbers-entries}
