@@ -3,7 +3,7 @@ use Rattle.std.proofs.Common.{◌≡◌, ◌⊎◌, inl, inr, ℕ, ◌≤◌, �
 use Rattle.std.specs.Io.KnownBytes.{Consumes, IsAtEnd}
 use Rattle.std.proofs.lemmas.Int.{ints}
 use Rattle.tv_spec_plane.specs.Web.{Web}
-use Rattle.tv_spec_text.specs.Lines.{Word, Line as TextLine}
+use Rattle.tv_spec_text.specs.Lines.{Word, Line as TextLine, word_lines}
 use Rattle.tv_spec_text.specs.Places.{IsPlace}
 use Rattle.tv_spec_text.proofs.Places.{IsPlace-none}
 use Rattle.tv_spec_json.specs.Files.{is_json}
@@ -14,7 +14,15 @@ use Rattle.tv_triangulation.specs.Triangulated.{IsTiled}
 use Rattle.tv_triangulation.proofs.Accepted.{tiling_triangles_pass}
 use Rattle.tv_spec_plane.specs.Graded.{IsGraded}
 use Rattle.tv_outside.specs.Faults.{Rose, RoseOnce}
-use Rattle.tv_top.specs.Commands.{IsCommand, Asks, side_of}
+use Rattle.tv_lattice.specs.declared.fault.ReportFault.{ReportFault}
+use Rattle.tv_lattice.specs.declared.fault.ReportFault.TheVariants.{TooLong as ReportTooLong, Line as AtLine}
+use Rattle.tv_integers.specs.declared.report.Report.{Report}
+use Rattle.tv_spec_reports.specs.Grammar.{IsGv}
+use Rattle.tv_report_reader.specs.declared.limits.TheConstants.{MOST_REPORT_BYTES}
+use Rattle.tv_report_reader.specs.declared.fault.ReportError.TheVariants.{Fault}
+use Rattle.tv_report_reader.specs.Faults.{IsReport as IsReportText, IsReportFault}
+use Rattle.tv_top.specs.Verification.{IsVerdictOn, DeservesVerdict, DeservesReportFault}
+use Rattle.tv_top.specs.Commands.{IsCommand, Subject, OfFile, OfGrid, OfReport, Asks, subject_of}
 use Rattle.tv_top.specs.Acceptance.{turned_web, IsFile, IsAccepted, IsUnsoundBy}
 use Rattle.tv_top.specs.Reports.{IsReport, IsWide, IsDiffers, IsUnsuited}
 use Rattle.tv_top.specs.Boxes.{Suits, IsUnsuitedAt}
@@ -22,7 +30,7 @@ use Rattle.tv_top.specs.Rejections.{FaultOf}
 use Rattle.tv_top.specs.Answers.{Change, Gave, IsOver, IsOn, Deserves, DeservesFile, Told, Answers}
 use Rattle.tv_top.specs.Completeness.{Completes, IsGiven}
 use Rattle.tv_top.specs.declared.command.Command.{Command}
-use Rattle.tv_top.specs.declared.command.Command.TheVariants.{Check, Series, Gv, Boxes, Generate, Summary}
+use Rattle.tv_top.specs.declared.command.Command.TheVariants.{Check, Series, Gv, Boxes, Generate, Summary, Verify}
 use Rattle.tv_top.specs.declared.status.Status.{Status}
 use Rattle.tv_top.specs.declared.status.Status.TheVariants.{Done, Words, File, Wide, Differs, Memory, ReadFault, WriteFault}
 use Rattle.tv_top.proofs.Reading.{one_file, within_limits, few_bytes, read_or_refused}
@@ -121,6 +129,7 @@ reported_or_unsuited (Series kind d n) w k text u h = absurd u
 reported_or_unsuited (Gv d n) w k text u h = absurd u
 reported_or_unsuited (Generate side) w k text u h = absurd u
 reported_or_unsuited (Summary side d n) w k text u h = absurd u
+reported_or_unsuited Verify w k text u h = absurd u
 
 wide_or_unsuited : (c : Command) (w : Web) (k : ℕ) (line : TextLine) → IsUnsuited c w k → IsWide c w line → ⊥
 wide_or_unsuited (Boxes chi v) w k line u h = absurd h
@@ -129,6 +138,7 @@ wide_or_unsuited (Series kind d n) w k line u h = absurd u
 wide_or_unsuited (Gv d n) w k line u h = absurd u
 wide_or_unsuited (Generate side) w k line u h = absurd u
 wide_or_unsuited (Summary side d n) w k line u h = absurd u
+wide_or_unsuited Verify w k line u h = absurd u
 
 differs_or_unsuited : (c : Command) (w : Web) (k : ℕ) (line : TextLine) → IsUnsuited c w k → IsDiffers c w line → ⊥
 differs_or_unsuited (Boxes chi v) w k line u h = absurd h
@@ -137,46 +147,71 @@ differs_or_unsuited (Series kind d n) w k line u h = absurd u
 differs_or_unsuited (Gv d n) w k line u h = absurd u
 differs_or_unsuited (Generate side) w k line u h = absurd u
 differs_or_unsuited (Summary side d n) w k line u h = absurd u
+differs_or_unsuited Verify w k line u h = absurd u
 
 -- a command is about one web
 
-side_along : (c d : Command) → c ≡ d → side_of c ≡ side_of d
-side_along c d e = ap side_of e
+side_along : (c d : Command) → c ≡ d → subject_of c ≡ subject_of d
+side_along c d e = ap subject_of e
 
-none_or_some : {A : Type 0} (k : ℕ) (side : Option ℕ) → side ≡ Some k → side ≡ None → A
-none_or_some k side p q = cc
+no_file_of_grid : (k : ℕ) → OfGrid k ≡ OfFile → ⊥
+no_file_of_grid k e = cc
 
-given_web : (side : Option ℕ) (io : Change) (v w : Web) → IsOver side io v → IsGiven side io w → v ≡ w
-given_web None io v w over given =
+no_report_of_file : OfReport ≡ OfFile → ⊥
+no_report_of_file e = cc
+
+-- `verify` is about no web
+on_verify : (ws : List Word) (io : Change) (c : Command) (w : Web) → Asks ws Verify → IsOn ws io c w → ⊥
+on_verify ws io c w q on = subst (λ k. IsOver (subject_of k) io w) (same_command ws c Verify on.asked q) on.over
+
+given_verify : (ws : List Word) (io : Change) (c : Command) (w : Web) → Asks ws c → IsGiven (subject_of c) io w → Asks ws Verify → ⊥
+given_verify ws io c w q a v = subst (λ k. IsGiven (subject_of k) io w) (same_command ws c Verify q v) a
+
+-- nor about a file
+file_verify : (ws : List Word) (c : Command) → Asks ws c → subject_of c ≡ OfFile → Asks ws Verify → ⊥
+file_verify ws c q file v = no_report_of_file (side_along Verify c (same_command ws Verify c v q) ∙ file)
+
+given_web : (subject : Subject) (io : Change) (v w : Web) → IsOver subject io v → IsGiven subject io w → v ≡ w
+given_web OfFile io v w over given =
     same_web given.0 v w (subst (λ bytes. IsAccepted bytes v) (sym (told_bytes io given.0 over.0 given.1 over.1)) over.2) given.2
-given_web (Some k) io v w over given = over.1 ∙ sym given
+given_web (OfGrid k) io v w over given = over.1 ∙ sym given
+given_web OfReport io v w over given = absurd over
 
 -- a command about a web is refused no file
-given_or_file : (ws : List Word) (io : Change) (text : List ℕ) (side : Option ℕ) (w : Web) → IsGiven side io w → side ≡ None → DeservesFile ws io text → ⊥
-given_or_file ws io text None w given file d = refused_or_accepted ws io text given.0 w given.1 given.2 d
-given_or_file ws io text (Some k) w given file d = none_or_some k (Some k) refl file
+given_or_file : (ws : List Word) (io : Change) (text : List ℕ) (subject : Subject) (w : Web) → IsGiven subject io w → subject ≡ OfFile → DeservesFile ws io text → ⊥
+given_or_file ws io text OfFile w given file d = refused_or_accepted ws io text given.0 w given.1 given.2 d
+given_or_file ws io text (OfGrid k) w given file d = no_file_of_grid k file
+given_or_file ws io text OfReport w given file d = absurd given
 
 -- what the deserved statuses are
-by_accepted : (ws : List Word) (io : Change) (c : Command) (w : Web) → Asks ws c → IsGiven (side_of c) io w → (Rose io.before.faults io.after.faults → ⊥)
+by_accepted : (ws : List Word) (io : Change) (c : Command) (w : Web) → Asks ws c → IsGiven (subject_of c) io w → (Rose io.before.faults io.after.faults → ⊥)
     → (s : Status) (text : List ℕ) → Deserves ws io s text → (s ≡ Done) ⊎ (((s ≡ Wide) × ((l : TextLine) × IsWide c w l)) ⊎ (((s ≡ Differs) × ((l : TextLine) × IsDiffers c w l)) ⊎ (((s ≡ Words) × ((k : ℕ) × IsUnsuited c w k)) ⊎ (s ≡ Memory))))
 by_accepted ws io c w q a n Done text d = inl refl
 by_accepted ws io c w q a n Words text d = elim d [
   | inl x ↦ absurd (IsPlace-none IsCommand ws x.place (c, q) x.outside)
   | inr x ↦
       let same : x.command ≡ c = same_command ws x.command c x.on.asked q in
-      let web : x.web ≡ w = given_web (side_of c) io x.web w (subst (λ k. IsOver (side_of k) io x.web) same x.on.over) a in
+      let web : x.web ≡ w = given_web (subject_of c) io x.web w (subst (λ k. IsOver (subject_of k) io x.web) same x.on.over) a in
       inr (inr (inr (inl (refl, (x.place, unsuited_along c x.command x.web w x.place same web x.unsuited)))))
 ]
-by_accepted ws io c w q a n File text d =
-    absurd (given_or_file ws io text (side_of c) w a (side_along c d.command (same_command ws c d.command q d.asked) ∙ d.file) d)
-by_accepted ws io c w q a n Wide text d =
-    let same : d.command ≡ c = same_command ws d.command c d.on.asked q in
-    let web : d.web ≡ w = given_web (side_of c) io d.web w (subst (λ k. IsOver (side_of k) io d.web) same d.on.over) a in
-    inr (inl (refl, wide_along c d.command d.web w d.refusal same web d.wide))
-by_accepted ws io c w q a n Differs text d =
-    let same : d.command ≡ c = same_command ws d.command c d.on.asked q in
-    let web : d.web ≡ w = given_web (side_of c) io d.web w (subst (λ k. IsOver (side_of k) io d.web) same d.on.over) a in
-    inr (inr (inl (refl, differs_along c d.command d.web w d.refusal same web d.differs)))
+by_accepted ws io c w q a n File text d = elim d [
+  | inl x ↦ absurd (given_or_file ws io text (subject_of c) w a (side_along c x.command (same_command ws c x.command q x.asked) ∙ x.file) x)
+  | inr x ↦ absurd (given_verify ws io c w q a x.asked)
+]
+by_accepted ws io c w q a n Wide text d = elim d [
+  | inl x ↦
+      let same : x.command ≡ c = same_command ws x.command c x.on.asked q in
+      let web : x.web ≡ w = given_web (subject_of c) io x.web w (subst (λ k. IsOver (subject_of k) io x.web) same x.on.over) a in
+      inr (inl (refl, wide_along c x.command x.web w x.refusal same web x.wide))
+  | inr x ↦ absurd (given_verify ws io c w q a x.on.asked)
+]
+by_accepted ws io c w q a n Differs text d = elim d [
+  | inl x ↦
+      let same : x.command ≡ c = same_command ws x.command c x.on.asked q in
+      let web : x.web ≡ w = given_web (subject_of c) io x.web w (subst (λ k. IsOver (subject_of k) io x.web) same x.on.over) a in
+      inr (inr (inl (refl, differs_along c x.command x.web w x.refusal same web x.differs)))
+  | inr x ↦ absurd (given_verify ws io c w q a x.on.asked)
+]
 by_accepted ws io c w q a n Memory text d = inr (inr (inr (inr refl)))
 by_accepted ws io c w q a n ReadFault text d = absurd (n (rose-once _ _ d.rose))
 by_accepted ws io c w q a n WriteFault text d = absurd d
@@ -185,55 +220,159 @@ by_accepted ws io c w q a n WriteFault text d = absurd d
 refused_and_read : (io : Change) (told bytes : List ℕ) (w : Web) (f : FileFault) → io.before.bytes ≡ Some told → Gave io bytes → IsAccepted bytes w → FaultOf told f → ⊥
 refused_and_read io told bytes w f e g a x = accepted_or_fault told w f (subst (λ bs. IsAccepted bs w) (sym (told_bytes io told bytes e g)) a) x
 
-over_refused : (side : Option ℕ) (io : Change) (told : List ℕ) (w : Web) (f : FileFault) → side ≡ None → io.before.bytes ≡ Some told → IsOver side io w → FaultOf told f → ⊥
-over_refused None io told w f file e over x = refused_and_read io told over.0 w f e over.1 over.2 x
-over_refused (Some k) io told w f file e over x = none_or_some k (Some k) refl file
+over_refused : (subject : Subject) (io : Change) (told : List ℕ) (w : Web) (f : FileFault) → subject ≡ OfFile → io.before.bytes ≡ Some told → IsOver subject io w → FaultOf told f → ⊥
+over_refused OfFile io told w f file e over x = refused_and_read io told over.0 w f e over.1 over.2 x
+over_refused (OfGrid k) io told w f file e over x = no_file_of_grid k file
+over_refused OfReport io told w f file e over x = absurd over
 
-on_refused : (ws : List Word) (io : Change) (c d : Command) (told : List ℕ) (w : Web) (f : FileFault) → Asks ws c → side_of c ≡ None → io.before.bytes ≡ Some told → IsOn ws io d w → FaultOf told f → ⊥
-on_refused ws io c d told w f q file e on x = over_refused (side_of d) io told w f (side_along d c (same_command ws d c on.asked q) ∙ file) e on.over x
+on_refused : (ws : List Word) (io : Change) (c d : Command) (told : List ℕ) (w : Web) (f : FileFault) → Asks ws c → subject_of c ≡ OfFile → io.before.bytes ≡ Some told → IsOn ws io d w → FaultOf told f → ⊥
+on_refused ws io c d told w f q file e on x = over_refused (subject_of d) io told w f (side_along d c (same_command ws d c on.asked q) ∙ file) e on.over x
 
-by_refused : (ws : List Word) (io : Change) (c : Command) (told : List ℕ) (f : FileFault) → Asks ws c → side_of c ≡ None → io.before.bytes ≡ Some told → FaultOf told f → (Rose io.before.faults io.after.faults → ⊥)
+by_refused : (ws : List Word) (io : Change) (c : Command) (told : List ℕ) (f : FileFault) → Asks ws c → subject_of c ≡ OfFile → io.before.bytes ≡ Some told → FaultOf told f → (Rose io.before.faults io.after.faults → ⊥)
     → (s : Status) (text : List ℕ) → Deserves ws io s text → (s ≡ File) ⊎ (s ≡ Memory)
-by_refused ws io c told f q file e x n Done text d = absurd (on_refused ws io c d.command told d.web f q file e d.on x)
+by_refused ws io c told f q file e x n Done text d = elim d [
+  | inl y ↦ absurd (on_refused ws io c y.command told y.web f q file e y.on x)
+  | inr y ↦ absurd (file_verify ws c q file y.on.asked)
+]
 by_refused ws io c told f q file e x n Words text d = elim d [
   | inl y ↦ absurd (IsPlace-none IsCommand ws y.place (c, q) y.outside)
   | inr y ↦ absurd (on_refused ws io c y.command told y.web f q file e y.on x)
 ]
 by_refused ws io c told f q file e x n File text d = inl refl
-by_refused ws io c told f q file e x n Wide text d = absurd (on_refused ws io c d.command told d.web f q file e d.on x)
-by_refused ws io c told f q file e x n Differs text d = absurd (on_refused ws io c d.command told d.web f q file e d.on x)
+by_refused ws io c told f q file e x n Wide text d = elim d [
+  | inl y ↦ absurd (on_refused ws io c y.command told y.web f q file e y.on x)
+  | inr y ↦ absurd (file_verify ws c q file y.on.asked)
+]
+by_refused ws io c told f q file e x n Differs text d = elim d [
+  | inl y ↦ absurd (on_refused ws io c y.command told y.web f q file e y.on x)
+  | inr y ↦ absurd (file_verify ws c q file y.on.asked)
+]
 by_refused ws io c told f q file e x n Memory text d = inr refl
 by_refused ws io c told f q file e x n ReadFault text d = absurd (n (rose-once _ _ d.rose))
 by_refused ws io c told f q file e x n WriteFault text d = absurd d
 
 by_words : (ws : List Word) (io : Change) (k : ℕ) → IsPlace IsCommand ws k → (s : Status) (text : List ℕ) → Deserves ws io s text → (s ≡ Words) ⊎ (s ≡ Memory)
-by_words ws io k p Done text d = absurd (IsPlace-none IsCommand ws k (d.command, d.on.asked) p)
+by_words ws io k p Done text d = elim d [
+  | inl x ↦ absurd (IsPlace-none IsCommand ws k (x.command, x.on.asked) p)
+  | inr x ↦ absurd (IsPlace-none IsCommand ws k (Verify, x.on.asked) p)
+]
 by_words ws io k p Words text d = inl refl
-by_words ws io k p File text d = absurd (IsPlace-none IsCommand ws k (d.command, d.asked) p)
-by_words ws io k p Wide text d = absurd (IsPlace-none IsCommand ws k (d.command, d.on.asked) p)
-by_words ws io k p Differs text d = absurd (IsPlace-none IsCommand ws k (d.command, d.on.asked) p)
+by_words ws io k p File text d = elim d [
+  | inl x ↦ absurd (IsPlace-none IsCommand ws k (x.command, x.asked) p)
+  | inr x ↦ absurd (IsPlace-none IsCommand ws k (Verify, x.asked) p)
+]
+by_words ws io k p Wide text d = elim d [
+  | inl x ↦ absurd (IsPlace-none IsCommand ws k (x.command, x.on.asked) p)
+  | inr x ↦ absurd (IsPlace-none IsCommand ws k (Verify, x.on.asked) p)
+]
+by_words ws io k p Differs text d = elim d [
+  | inl x ↦ absurd (IsPlace-none IsCommand ws k (x.command, x.on.asked) p)
+  | inr x ↦ absurd (IsPlace-none IsCommand ws k (Verify, x.on.asked) p)
+]
 by_words ws io k p Memory text d = inr refl
 by_words ws io k p ReadFault text d = absurd (IsPlace-none IsCommand ws k (d.command, d.asked) p)
 by_words ws io k p WriteFault text d = absurd d
 
 -- what a command over a web to which it is unsuited deserves
-on_unsuited : {A : Type 0} (ws : List Word) (io : Change) (c d : Command) (v w : Web) (k : ℕ) → Asks ws c → IsGiven (side_of c) io w → IsUnsuited c w k → IsOn ws io d v → (IsUnsuited d v k → ⊥) → A
+on_unsuited : {A : Type 0} (ws : List Word) (io : Change) (c d : Command) (v w : Web) (k : ℕ) → Asks ws c → IsGiven (subject_of c) io w → IsUnsuited c w k → IsOn ws io d v → (IsUnsuited d v k → ⊥) → A
 on_unsuited ws io c d v w k q a u on none =
     let same : d ≡ c = same_command ws d c on.asked q in
-    let web : v ≡ w = given_web (side_of c) io v w (subst (λ e. IsOver (side_of e) io v) same on.over) a in
+    let web : v ≡ w = given_web (subject_of c) io v w (subst (λ e. IsOver (subject_of e) io v) same on.over) a in
     absurd (none (unsuited_along d c w v k (sym same) (sym web) u))
 
-by_unsuited : (ws : List Word) (io : Change) (c : Command) (w : Web) (k : ℕ) → Asks ws c → IsGiven (side_of c) io w → IsUnsuited c w k → (Rose io.before.faults io.after.faults → ⊥)
+by_unsuited : (ws : List Word) (io : Change) (c : Command) (w : Web) (k : ℕ) → Asks ws c → IsGiven (subject_of c) io w → IsUnsuited c w k → (Rose io.before.faults io.after.faults → ⊥)
     → (s : Status) (text : List ℕ) → Deserves ws io s text → (s ≡ Words) ⊎ (s ≡ Memory)
-by_unsuited ws io c w k q a u n Done text d = on_unsuited ws io c d.command d.web w k q a u d.on (λ v. reported_or_unsuited d.command d.web k text v d.report)
+by_unsuited ws io c w k q a u n Done text d = elim d [
+  | inl x ↦ on_unsuited ws io c x.command x.web w k q a u x.on (λ v. reported_or_unsuited x.command x.web k text v x.report)
+  | inr x ↦ absurd (given_verify ws io c w q a x.on.asked)
+]
 by_unsuited ws io c w k q a u n Words text d = inl refl
-by_unsuited ws io c w k q a u n File text d =
-    absurd (given_or_file ws io text (side_of c) w a (side_along c d.command (same_command ws c d.command q d.asked) ∙ d.file) d)
-by_unsuited ws io c w k q a u n Wide text d = on_unsuited ws io c d.command d.web w k q a u d.on (λ v. wide_or_unsuited d.command d.web k d.refusal v d.wide)
-by_unsuited ws io c w k q a u n Differs text d = on_unsuited ws io c d.command d.web w k q a u d.on (λ v. differs_or_unsuited d.command d.web k d.refusal v d.differs)
+by_unsuited ws io c w k q a u n File text d = elim d [
+  | inl x ↦ absurd (given_or_file ws io text (subject_of c) w a (side_along c x.command (same_command ws c x.command q x.asked) ∙ x.file) x)
+  | inr x ↦ absurd (given_verify ws io c w q a x.asked)
+]
+by_unsuited ws io c w k q a u n Wide text d = elim d [
+  | inl x ↦ on_unsuited ws io c x.command x.web w k q a u x.on (λ v. wide_or_unsuited x.command x.web k x.refusal v x.wide)
+  | inr x ↦ absurd (given_verify ws io c w q a x.on.asked)
+]
+by_unsuited ws io c w k q a u n Differs text d = elim d [
+  | inl x ↦ on_unsuited ws io c x.command x.web w k q a u x.on (λ v. differs_or_unsuited x.command x.web k x.refusal v x.differs)
+  | inr x ↦ absurd (given_verify ws io c w q a x.on.asked)
+]
 by_unsuited ws io c w k q a u n Memory text d = inr refl
 by_unsuited ws io c w k q a u n ReadFault text d = absurd (n (rose-once _ _ d.rose))
 by_unsuited ws io c w k q a u n WriteFault text d = absurd d
+
+-- a report is not refused
+report_or_fault : (bytes : List ℕ) (r : Report) (f : ReportFault) → IsReportText bytes r → IsReportFault bytes (Fault f) → ⊥
+report_or_fault bytes r ReportTooLong is x = let few = is.0 in absurd (omega arith)
+report_or_fault bytes r (AtLine n) is x = IsPlace-none IsGv (word_lines bytes) x.1.0 (is.1.0, is.1.1) x.1.2
+
+-- a report that was refused for some told bytes isn't one that they spell
+fault_or_report : (ws : List Word) (io : Change) (text told : List ℕ) (r : Report) → io.before.bytes ≡ Some told → IsReportText told r → DeservesReportFault ws io text → ⊥
+fault_or_report ws io text told r e is d = elim d.ended [
+  | inl long ↦ let more = file_bytes io.before.bytes io.after.bytes told d.bytes e d.taken in let few = is.0 in absurd (omega arith)
+  | inr whole ↦ report_or_fault d.bytes r d.fault (subst (λ bytes. IsReportText bytes r) (all_of_told io.before.bytes io.after.bytes told d.bytes e d.taken whole.1) is) d.refused
+]
+
+abbrev IsFoundIn : List ℕ → Status → Type 0
+IsFoundIn bytes s = (q : Report) × (text : List ℕ) × IsReportText bytes q × IsVerdictOn q s text
+
+found_in : (ws : List Word) (io : Change) (told : List ℕ) (s : Status) (text : List ℕ) → io.before.bytes ≡ Some told → DeservesVerdict ws io s text → IsFoundIn told s
+found_in ws io told s text e d = (d.report, text, subst (λ bytes. IsReportText bytes d.report) (sym (told_bytes io told d.on.bytes e d.on.gave)) d.on.read, d.verdict)
+
+by_checked : (ws : List Word) (io : Change) (told : List ℕ) (r : Report) → Asks ws Verify → io.before.bytes ≡ Some told → IsReportText told r → (Rose io.before.faults io.after.faults → ⊥)
+    → (s : Status) (text : List ℕ) → Deserves ws io s text → IsFoundIn told s ⊎ (s ≡ Memory)
+by_checked ws io told r q e is n Done text d = elim d [
+  | inl x ↦ absurd (on_verify ws io x.command x.web q x.on)
+  | inr x ↦ inl (found_in ws io told Done text e x)
+]
+by_checked ws io told r q e is n Words text d = elim d [
+  | inl x ↦ absurd (IsPlace-none IsCommand ws x.place (Verify, q) x.outside)
+  | inr x ↦ absurd (on_verify ws io x.command x.web q x.on)
+]
+by_checked ws io told r q e is n File text d = elim d [
+  | inl x ↦ absurd (file_verify ws x.command x.asked x.file q)
+  | inr x ↦ absurd (fault_or_report ws io text told r e is x)
+]
+by_checked ws io told r q e is n Wide text d = elim d [
+  | inl x ↦ absurd (on_verify ws io x.command x.web q x.on)
+  | inr x ↦ inl (found_in ws io told Wide text e x)
+]
+by_checked ws io told r q e is n Differs text d = elim d [
+  | inl x ↦ absurd (on_verify ws io x.command x.web q x.on)
+  | inr x ↦ inl (found_in ws io told Differs text e x)
+]
+by_checked ws io told r q e is n Memory text d = inr refl
+by_checked ws io told r q e is n ReadFault text d = absurd (n (rose-once _ _ d.rose))
+by_checked ws io told r q e is n WriteFault text d = absurd d
+
+-- a verdict is on no bytes that are refused
+verdict_or_fault : {A : Type 0} (ws : List Word) (io : Change) (told : List ℕ) (f : ReportFault) (s : Status) (text : List ℕ) → io.before.bytes ≡ Some told → IsReportFault told (Fault f) → DeservesVerdict ws io s text → A
+verdict_or_fault ws io told f s text e x d = let found = found_in ws io told s text e d in absurd (report_or_fault told found.0 f found.2 x)
+
+by_unread : (ws : List Word) (io : Change) (told : List ℕ) (f : ReportFault) → Asks ws Verify → io.before.bytes ≡ Some told → IsReportFault told (Fault f) → (Rose io.before.faults io.after.faults → ⊥)
+    → (s : Status) (text : List ℕ) → Deserves ws io s text → (s ≡ File) ⊎ (s ≡ Memory)
+by_unread ws io told f q e x n Done text d = elim d [
+  | inl y ↦ absurd (on_verify ws io y.command y.web q y.on)
+  | inr y ↦ verdict_or_fault ws io told f Done text e x y
+]
+by_unread ws io told f q e x n Words text d = elim d [
+  | inl y ↦ absurd (IsPlace-none IsCommand ws y.place (Verify, q) y.outside)
+  | inr y ↦ absurd (on_verify ws io y.command y.web q y.on)
+]
+by_unread ws io told f q e x n File text d = inl refl
+by_unread ws io told f q e x n Wide text d = elim d [
+  | inl y ↦ absurd (on_verify ws io y.command y.web q y.on)
+  | inr y ↦ verdict_or_fault ws io told f Wide text e x y
+]
+by_unread ws io told f q e x n Differs text d = elim d [
+  | inl y ↦ absurd (on_verify ws io y.command y.web q y.on)
+  | inr y ↦ verdict_or_fault ws io told f Differs text e x y
+]
+by_unread ws io told f q e x n Memory text d = inr refl
+by_unread ws io told f q e x n ReadFault text d = absurd (n (rose-once _ _ d.rose))
+by_unread ws io told f q e x n WriteFault text d = absurd d
 
 -- the status that was told is the deserved one
 told_status : (out : Change) (text : List ℕ) (s r : Status) → Told out text s r → (Rose out.before.faults out.after.faults → ⊥) → r ≡ s
@@ -244,5 +383,7 @@ completes ws io out r a = record {
   accepted = λ c w q given n. let same = told_status out a.text a.status r a.told n.1 in rw same (by_accepted ws io c w q given n.0 a.status a.text a.deserved);
   unsuited = λ c w k q given u n. let same = told_status out a.text a.status r a.told n.1 in rw same (by_unsuited ws io c w k q given u n.0 a.status a.text a.deserved);
   refused = λ c told f q file e x n. let same = told_status out a.text a.status r a.told n.1 in rw same (by_refused ws io c told f q file e x n.0 a.status a.text a.deserved);
+  checked = λ bytes q v e is n. let same = told_status out a.text a.status r a.told n.1 in rw same (by_checked ws io bytes q v e is n.0 a.status a.text a.deserved);
+  unread = λ bytes f v e x n. let same = told_status out a.text a.status r a.told n.1 in rw same (by_unread ws io bytes f v e x n.0 a.status a.text a.deserved);
   words = λ k p n. let same = told_status out a.text a.status r a.told n in rw same (by_words ws io k p a.status a.text a.deserved);
 }

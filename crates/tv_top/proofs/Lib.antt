@@ -10,6 +10,8 @@ pub mod IntegersReport
 pub mod SummaryReport
 pub mod Reading
 pub mod RejectedReply
+pub mod Checkable
+pub mod CheckedReply
 pub mod ToldPieces
 pub mod Completeness
 pub mod GridWebs

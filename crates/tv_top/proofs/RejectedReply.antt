@@ -1,5 +1,5 @@
 -- The replies to what was read.
-use Rattle.std.proofs.Common.{◌≡◌, ℕ, ◌+◌, ◌≤◌, List, [], length, Option, Some, None, Result, Ok, Err, MatchResult, ℤ, inl, inr, refl, ap, sym, arith, subst}
+use Rattle.std.proofs.Common.{◌≡◌, ℕ, ◌+◌, ◌≤◌, List, [], length, Option, Some, None, Result, Ok, Err, MatchResult, ℤ, inl, inr, refl, ap, sym, ◌∙◌, arith, subst}
 use Rattle.std.specs.Io.KnownBytes.{Consumes}
 use Rattle.tv_spec_plane.specs.Web.{Web}
 use Rattle.tv_spec_text.specs.Lines.{Word, line_text}
@@ -9,11 +9,12 @@ use Rattle.tv_lattice.specs.declared.fault.FileFault.TheVariants.{TooLong}
 use Rattle.tv_top.specs.declared.answer.Failure.TheVariants.{Memory}
 use Rattle.tv_text.specs.Refusals.{fault_line}
 use Rattle.tv_outside.specs.Seen.{Seen}
+use Rattle.tv_outside.specs.Faults.{RoseOnce}
 use Rattle.tv_spec_reports.specs.Grids.{grid}
-use Rattle.tv_top.specs.Commands.{Asks, IsCommand, side_of}
+use Rattle.tv_top.specs.Commands.{Subject, OfFile, OfGrid, OfReport, Asks, IsCommand, subject_of}
 use Rattle.tv_top.specs.Acceptance.{IsAccepted}
 use Rattle.tv_top.specs.Rejections.{FaultOf}
-use Rattle.tv_top.specs.Answers.{Change, Gave, IsOver, Deserves, DeservesFile, Reads, words_text}
+use Rattle.tv_top.specs.Answers.{Change, Gave, IsOver, IsRead, most_bytes, Deserves, DeservesFile, DeservesRead, Reads, words_text, read_text}
 use Rattle.tv_top.specs.Replies.{CarriesOut, IsCarriedOut, Stands, IsAnswered, in_text, Judges, IsJudged, Replies, Says, Fails}
 use Rattle.tv_top.specs.Commands.{IsOrder}
 use Rattle.tv_top.specs.Reports.{IsUnsuited}
@@ -32,11 +33,11 @@ use Rattle.tv_top.specs.declared.status.Status.TheVariants.{Done, Words, File, W
 
 rejected_reply : (ws : List Word) (io : Change) (fault : FileFault) (r : Result Answer Failure) (o : Result Outcome Failure) → o ≡ in_text r → Says r File (fault_line fault)
     → ((text : List ℕ) → text ≡ line_text (fault_line fault) → DeservesFile ws io text) → Replies ws io o
-rejected_reply ws io fault (Ok a) o t h f = rw t (subst (λ s. Deserves ws io s a.text.items) (sym h.0) (f a.text.items h.1))
+rejected_reply ws io fault (Ok a) o t h f = rw t (subst (λ s. Deserves ws io s a.text.items) (sym h.0) (inl (f a.text.items h.1)))
 rejected_reply ws io fault (Err e) o t h f = rw t (subst (Fails ws io) (sym h) tt)
 
 -- the refusal of an input of which 65,537 bytes were taken
-pub too_long_reply : (ws : List Word) (io : Change) (c : Command) (bytes : List ℕ) (r : Result Answer Failure) (o : Result Outcome Failure) → o ≡ in_text r → Asks ws c → side_of c ≡ None → Consumes io.before.bytes io.after.bytes bytes → io.after.faults ≡ io.before.faults → length bytes ≡ MOST_BYTES + 1
+pub too_long_reply : (ws : List Word) (io : Change) (c : Command) (bytes : List ℕ) (r : Result Answer Failure) (o : Result Outcome Failure) → o ≡ in_text r → Asks ws c → subject_of c ≡ OfFile → Consumes io.before.bytes io.after.bytes bytes → io.after.faults ≡ io.before.faults → length bytes ≡ MOST_BYTES + 1
     → Says r File (fault_line TooLong) → Replies ws io o
 too_long_reply ws io c bytes r o t q file taken kept long h = rejected_reply ws io TooLong r o t h (λ text line. record { command = c; bytes = bytes; fault = TooLong; asked = q; file = file; taken = taken; ended = inl long; kept = kept; refused = omega arith; line = line })
 
@@ -79,34 +80,35 @@ pub listing_answered : (l : Listing) (chi : ℤ) (entries : List ℤ) → l.clas
 listing_answered l chi entries same order suits o =
     ((suits, subst IsOrder (sym order) o), λ s text d. subst (λ v. CarriesOut (Boxes chi v) l.web s text) same (subst (λ n. CarriesOut (Boxes n l.class) l.web s text) order d))
 
-over_file : (side : Option ℕ) (io : Change) (bytes : List ℕ) (w : Web) → side ≡ None → Gave io bytes → IsAccepted bytes w → IsOver side io w
-over_file None io bytes w e g a = (bytes, g, a)
-over_file (Some k) io bytes w e g a = cc
+over_file : (subject : Subject) (io : Change) (bytes : List ℕ) (w : Web) → subject ≡ OfFile → Gave io bytes → IsAccepted bytes w → IsOver subject io w
+over_file OfFile io bytes w e g a = (bytes, g, a)
+over_file (OfGrid k) io bytes w e g a = cc
+over_file OfReport io bytes w e g a = cc
 
-deserves : (ws : List Word) (io : Change) (c : Command) (bytes : List ℕ) (s : Status) (text : List ℕ) → Asks ws c → side_of c ≡ None → Gave io bytes → length bytes ≤ MOST_BYTES → Judges c bytes s text → Deserves ws io s text
-deserves ws io c bytes Done text q e g l h = record { command = c; web = h.0; on = record { asked = q; over = over_file (side_of c) io bytes h.0 e g h.1 }; report = h.2 }
-deserves ws io c bytes Wide text q e g l h = record { command = c; web = h.0; refusal = h.2.0; on = record { asked = q; over = over_file (side_of c) io bytes h.0 e g h.1 }; wide = h.2.1; line = h.2.2 }
-deserves ws io c bytes File text q e g l h = record { command = c; bytes = bytes; fault = h.0; asked = q; file = e; taken = g.taken; ended = inr (l, g.ended); kept = g.kept; refused = h.1; line = h.2 }
-deserves ws io c bytes Words text q e g l h = inr (record { command = c; web = h.0; place = h.2.0; on = record { asked = q; over = over_file (side_of c) io bytes h.0 e g h.1 }; unsuited = h.2.1; line = h.2.2 })
-deserves ws io c bytes Differs text q e g l h = record { command = c; web = h.0; refusal = h.2.0; on = record { asked = q; over = over_file (side_of c) io bytes h.0 e g h.1 }; differs = h.2.1; line = h.2.2 }
+deserves : (ws : List Word) (io : Change) (c : Command) (bytes : List ℕ) (s : Status) (text : List ℕ) → Asks ws c → subject_of c ≡ OfFile → Gave io bytes → length bytes ≤ MOST_BYTES → Judges c bytes s text → Deserves ws io s text
+deserves ws io c bytes Done text q e g l h = inl (record { command = c; web = h.0; on = record { asked = q; over = over_file (subject_of c) io bytes h.0 e g h.1 }; report = h.2 })
+deserves ws io c bytes Wide text q e g l h = inl (record { command = c; web = h.0; refusal = h.2.0; on = record { asked = q; over = over_file (subject_of c) io bytes h.0 e g h.1 }; wide = h.2.1; line = h.2.2 })
+deserves ws io c bytes File text q e g l h = inl (record { command = c; bytes = bytes; fault = h.0; asked = q; file = e; taken = g.taken; ended = inr (l, g.ended); kept = g.kept; refused = h.1; line = h.2 })
+deserves ws io c bytes Words text q e g l h = inr (record { command = c; web = h.0; place = h.2.0; on = record { asked = q; over = over_file (subject_of c) io bytes h.0 e g h.1 }; unsuited = h.2.1; line = h.2.2 })
+deserves ws io c bytes Differs text q e g l h = inl (record { command = c; web = h.0; refusal = h.2.0; on = record { asked = q; over = over_file (subject_of c) io bytes h.0 e g h.1 }; differs = h.2.1; line = h.2.2 })
 deserves ws io c bytes MemoryStatus text q e g l h = elim h.2 [
   | inl line ↦ inl line
-  | inr begun ↦ inr (record { command = c; web = h.0; pieces = begun.0; on = record { asked = q; over = over_file (side_of c) io bytes h.0 e g h.1 }; begun = begun.1; broken_off = begun.2 })
+  | inr begun ↦ inr (record { command = c; web = h.0; pieces = begun.0; on = record { asked = q; over = over_file (subject_of c) io bytes h.0 e g h.1 }; begun = begun.1; broken_off = begun.2 })
 ]
 deserves ws io c bytes ReadFault text q e g l h = absurd h.2
 deserves ws io c bytes WriteFault text q e g l h = absurd h.2
 
-pub judged_reply : (ws : List Word) (io : Change) (c : Command) (bytes : List ℕ) (r : Result Outcome Failure) → Asks ws c → side_of c ≡ None → Gave io bytes → length bytes ≤ MOST_BYTES → IsJudged c bytes r → Replies ws io r
+pub judged_reply : (ws : List Word) (io : Change) (c : Command) (bytes : List ℕ) (r : Result Outcome Failure) → Asks ws c → subject_of c ≡ OfFile → Gave io bytes → length bytes ≤ MOST_BYTES → IsJudged c bytes r → Replies ws io r
 judged_reply ws io c bytes (Ok o) q e g l h = stands-onto (Judges c bytes) (Deserves ws io) (λ s text d. deserves ws io c bytes s text q e g l d) o h
 judged_reply ws io c bytes (Err e) q file g l h = subst (Fails ws io) (sym h) tt
 
 -- what a grid gives
-grid_deserves : (ws : List Word) (s : Seen) (c : Command) (k : ℕ) (status : Status) (text : List ℕ) → Asks ws c → side_of c ≡ Some k → CarriesOut c (grid k) status text → Deserves ws (record { before = s; after = s }) status text
-grid_deserves ws s c k Done text q e h = record { command = c; web = grid k; on = record { asked = q; over = rw e (refl, refl) }; report = h }
-grid_deserves ws s c k Wide text q e h = record { command = c; web = grid k; refusal = h.0; on = record { asked = q; over = rw e (refl, refl) }; wide = h.1; line = h.2 }
+grid_deserves : (ws : List Word) (s : Seen) (c : Command) (k : ℕ) (status : Status) (text : List ℕ) → Asks ws c → subject_of c ≡ OfGrid k → CarriesOut c (grid k) status text → Deserves ws (record { before = s; after = s }) status text
+grid_deserves ws s c k Done text q e h = inl (record { command = c; web = grid k; on = record { asked = q; over = rw e (refl, refl) }; report = h })
+grid_deserves ws s c k Wide text q e h = inl (record { command = c; web = grid k; refusal = h.0; on = record { asked = q; over = rw e (refl, refl) }; wide = h.1; line = h.2 })
 grid_deserves ws s c k File text q e h = absurd h
 grid_deserves ws s c k Words text q e h = inr (record { command = c; web = grid k; place = h.0; on = record { asked = q; over = rw e (refl, refl) }; unsuited = h.1; line = h.2 })
-grid_deserves ws s c k Differs text q e h = record { command = c; web = grid k; refusal = h.0; on = record { asked = q; over = rw e (refl, refl) }; differs = h.1; line = h.2 }
+grid_deserves ws s c k Differs text q e h = inl (record { command = c; web = grid k; refusal = h.0; on = record { asked = q; over = rw e (refl, refl) }; differs = h.1; line = h.2 })
 grid_deserves ws s c k MemoryStatus text q e h = elim h [
   | inl line ↦ inl line
   | inr begun ↦ inr (record { command = c; web = grid k; pieces = begun.0; on = record { asked = q; over = rw e (refl, refl) }; begun = begun.1; broken_off = begun.2 })
@@ -114,24 +116,30 @@ grid_deserves ws s c k MemoryStatus text q e h = elim h [
 grid_deserves ws s c k ReadFault text q e h = absurd h
 grid_deserves ws s c k WriteFault text q e h = absurd h
 
-pub grid_reply : (ws : List Word) (s : Seen) (c : Command) (k : ℕ) (r : Result Answer Failure) (o : Result Outcome Failure) → o ≡ in_text r → Asks ws c → side_of c ≡ Some k → IsCarriedOut c (grid k) r → Replies ws (record { before = s; after = s }) o
+pub grid_reply : (ws : List Word) (s : Seen) (c : Command) (k : ℕ) (r : Result Answer Failure) (o : Result Outcome Failure) → o ≡ in_text r → Asks ws c → subject_of c ≡ OfGrid k → IsCarriedOut c (grid k) r → Replies ws (record { before = s; after = s }) o
 grid_reply ws s c k (Ok a) o t q e h = rw t (grid_deserves ws s c k a.status a.text.items q e h)
 grid_reply ws s c k (Err f) o t q e h = rw t (subst (Fails ws (record { before = s; after = s })) (sym h) tt)
 
 -- what was taken for a command
-other_side : (ws : List Word) (c d : Command) (k : ℕ) → Asks ws c → side_of c ≡ None → Asks ws d → side_of d ≡ Some k → ⊥
-other_side ws c d k q e r f = let same = ap side_of (same_command ws c d q r) in cc
+other_side : (subject : Subject) (k : ℕ) → IsRead subject → subject ≡ OfGrid k → ⊥
+other_side OfFile k read e = cc
+other_side (OfGrid l) k read e = read
+other_side OfReport k read e = cc
 
-pub command_reads : (ws : List Word) (io : Change) (c : Command) (bytes : List ℕ) → Asks ws c → side_of c ≡ None → Consumes io.before.bytes io.after.bytes bytes → length bytes ≤ MOST_BYTES + 1 → io.after.calls ≤ io.before.calls + length bytes + 1 → io.before.faults ≤ io.after.faults → Reads ws io
-command_reads ws io c bytes q file taken within calls later = record {
+-- a file, or a report, was read
+pub command_reads : (ws : List Word) (io : Change) (c : Command) (subject : Subject) (bytes : List ℕ) → Asks ws c → subject_of c ≡ subject → IsRead subject → Consumes io.before.bytes io.after.bytes bytes → length bytes ≤ most_bytes subject + 1 → io.after.calls ≤ io.before.calls + length bytes + 1 → io.before.faults ≤ io.after.faults → Reads ws io
+command_reads ws io c subject bytes q is read taken within calls later = record {
   bytes = bytes;
   taken = taken;
-  within = within;
+  within = λ d r. subst (λ s. length bytes ≤ most_bytes s + 1) (sym is ∙ ap subject_of (same_command ws c d q r)) within;
   calls = calls;
   later = later;
   unread = λ k p. absurd (IsPlace-none IsCommand ws k (c, q) p);
-  made = λ d k r e. absurd (other_side ws c d k q file r e);
+  made = λ d k r e. absurd (other_side subject k read (sym is ∙ (ap subject_of (same_command ws c d q r) ∙ e)));
 }
+
+pub read_failed : (ws : List Word) (io : Change) (c : Command) (subject : Subject) → Asks ws c → subject_of c ≡ subject → IsRead subject → RoseOnce io.before.faults io.after.faults → DeservesRead ws io read_text
+read_failed ws io c subject q is read rose = record { command = c; asked = q; read = subst IsRead (sym is) read; rose = rose; line = refl }
 
 none_taken : (left : Option (List ℕ)) → Consumes left left []
 none_taken None = tt
@@ -139,4 +147,4 @@ none_taken (Some xs) = refl
 
 -- words that are refused, and commands about a grid, read nothing
 pub nothing_read : (ws : List Word) (s : Seen) → Reads ws (record { before = s; after = s })
-nothing_read ws s = record { bytes = []; taken = none_taken s.bytes; within = omega arith; calls = omega arith; later = omega arith; unread = λ k p. refl; made = λ c k q e. refl }
+nothing_read ws s = record { bytes = []; taken = none_taken s.bytes; within = λ c q. omega arith; calls = omega arith; later = omega arith; unread = λ k p. refl; made = λ c k q e. refl }

@@ -10,7 +10,7 @@ use Rattle.tv_text.specs.Sections.{kind_word}
 use Rattle.tv_top.specs.Commands.{IsSide, IsDegree, IsOrder, IsIntegersOrder, IsSeries, IsGv, IsBoxes, IsGenerate, IsSummaryOf, Asks}
 use Rattle.tv_top.specs.declared.command.TheConstants.{MIN_SIDE, MAX_SIDE, MAX_DEGREE, MIN_ORDER, MIN_INTEGERS_ORDER, MAX_ORDER}
 use Rattle.tv_top.specs.declared.command.Command.{Command}
-use Rattle.tv_top.specs.declared.command.Command.TheVariants.{Check, Series, Gv, Boxes, Generate, Summary}
+use Rattle.tv_top.specs.declared.command.Command.TheVariants.{Check, Series, Gv, Boxes, Generate, Summary, Verify}
 use Rattle.tv_top.proofs.WordPlaces.{head, tail, same_name, name_of, asks_words}
 use Rattle.tv_top.proofs.Between.{between_is_number}
 
@@ -123,3 +123,16 @@ same_command ws (Boxes z v) (Generate l) p q = let names = names_of_words ws (Bo
 same_command ws (Generate l) (Boxes z v) p q = let names = names_of_words ws (Generate l) (Boxes z v) p q in cc
 same_command ws (Boxes z v) (Summary m e o) p q = let names = names_of_words ws (Boxes z v) (Summary m e o) p q in cc
 same_command ws (Summary m e o) (Boxes z v) p q = let names = names_of_words ws (Summary m e o) (Boxes z v) p q in cc
+same_command ws Verify Verify p q = refl
+same_command ws Verify Check p q = let names = names_of_words ws Verify Check p q in cc
+same_command ws Check Verify p q = let names = names_of_words ws Check Verify p q in cc
+same_command ws Verify (Series k d n) p q = let names = names_of_words ws Verify (Series k d n) p q in cc
+same_command ws (Series k d n) Verify p q = let names = names_of_words ws (Series k d n) Verify p q in cc
+same_command ws Verify (Gv a b) p q = let names = names_of_words ws Verify (Gv a b) p q in cc
+same_command ws (Gv a b) Verify p q = let names = names_of_words ws (Gv a b) Verify p q in cc
+same_command ws Verify (Boxes z v) p q = let names = names_of_words ws Verify (Boxes z v) p q in cc
+same_command ws (Boxes z v) Verify p q = let names = names_of_words ws (Boxes z v) Verify p q in cc
+same_command ws Verify (Generate l) p q = let names = names_of_words ws Verify (Generate l) p q in cc
+same_command ws (Generate l) Verify p q = let names = names_of_words ws (Generate l) Verify p q in cc
+same_command ws Verify (Summary m e o) p q = let names = names_of_words ws Verify (Summary m e o) p q in cc
+same_command ws (Summary m e o) Verify p q = let names = names_of_words ws (Summary m e o) Verify p q in cc

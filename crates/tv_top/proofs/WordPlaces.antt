@@ -11,9 +11,9 @@ use Rattle.tv_text.specs.Sections.{kind_word}
 use Rattle.tv_top.specs.Commands.{IsSide, IsDegree, IsOrder, IsIntegersOrder, IsSeries, IsBoxes, IsSummaryOf, IsCommand, Asks, name_word, series_words, gv_words, boxes_words, generate_words, summary_words}
 use Rattle.tv_top.specs.Entries.{SpellEntries, LeavesEntries}
 use Rattle.tv_top.specs.declared.command.Name.{Name}
-use Rattle.tv_top.specs.declared.command.Name.TheVariants.{Check as CheckName, Series as SeriesName, Gv as GvName, Boxes as BoxesName, Generate as GenerateName, Summary as SummaryName}
+use Rattle.tv_top.specs.declared.command.Name.TheVariants.{Check as CheckName, Series as SeriesName, Gv as GvName, Boxes as BoxesName, Generate as GenerateName, Summary as SummaryName, Verify as VerifyName}
 use Rattle.tv_top.specs.declared.command.Command.{Command}
-use Rattle.tv_top.specs.declared.command.Command.TheVariants.{Check, Series, Gv, Boxes, Generate, Summary}
+use Rattle.tv_top.specs.declared.command.Command.TheVariants.{Check, Series, Gv, Boxes, Generate, Summary, Verify}
 
 -- The words in front begin a list of L, and those behind them go on with none.
 
@@ -69,6 +69,9 @@ no_more e = cc
 check_or_boxes : name_word CheckName ≡ name_word BoxesName → ⊥
 check_or_boxes e = let firsts : get_or (name_word CheckName) 0 0 ≡ get_or (name_word BoxesName) 0 0 = ap (λ w. get_or w 0 0) e in absurd (omega arith)
 
+series_or_verify : name_word SeriesName ≡ name_word VerifyName → ⊥
+series_or_verify e = let firsts : get_or (name_word SeriesName) 0 0 ≡ get_or (name_word VerifyName) 0 0 = ap (λ w. get_or w 0 0) e in absurd (omega arith)
+
 pub same_name : (n m : Name) → name_word n ≡ name_word m → n ≡ m
 same_name CheckName CheckName e = refl
 same_name SeriesName SeriesName e = refl
@@ -106,6 +109,19 @@ same_name BoxesName GenerateName e = absurd (let lengths = ap length e in omega 
 same_name GenerateName BoxesName e = absurd (let lengths = ap length e in omega arith)
 same_name BoxesName SummaryName e = absurd (let lengths = ap length e in omega arith)
 same_name SummaryName BoxesName e = absurd (let lengths = ap length e in omega arith)
+same_name VerifyName VerifyName e = refl
+same_name VerifyName CheckName e = absurd (let lengths = ap length e in omega arith)
+same_name CheckName VerifyName e = absurd (let lengths = ap length e in omega arith)
+same_name VerifyName SeriesName e = absurd (series_or_verify (sym e))
+same_name SeriesName VerifyName e = absurd (series_or_verify e)
+same_name VerifyName GvName e = absurd (let lengths = ap length e in omega arith)
+same_name GvName VerifyName e = absurd (let lengths = ap length e in omega arith)
+same_name VerifyName BoxesName e = absurd (let lengths = ap length e in omega arith)
+same_name BoxesName VerifyName e = absurd (let lengths = ap length e in omega arith)
+same_name VerifyName GenerateName e = absurd (let lengths = ap length e in omega arith)
+same_name GenerateName VerifyName e = absurd (let lengths = ap length e in omega arith)
+same_name VerifyName SummaryName e = absurd (let lengths = ap length e in omega arith)
+same_name SummaryName VerifyName e = absurd (let lengths = ap length e in omega arith)
 
 abbrev pub name_of : Command → Name
 name_of Check = CheckName
@@ -114,6 +130,7 @@ name_of (Gv d n) = GvName
 name_of (Boxes chi v) = BoxesName
 name_of (Generate k) = GenerateName
 name_of (Summary k d n) = SummaryName
+name_of Verify = VerifyName
 
 -- what follows the name
 abbrev pub rest_of : Command → List Word
@@ -123,6 +140,7 @@ rest_of (Gv d n) = spelled (pos d) ∷ spelled n ∷ []
 rest_of (Boxes chi v) = spelled chi ∷ map spelled v
 rest_of (Generate k) = spelled (pos k) ∷ []
 rest_of (Summary k d n) = spelled (pos k) ∷ spelled (pos d) ∷ spelled n ∷ []
+rest_of Verify = []
 
 pub asks_words : (ws : List Word) (c : Command) → Asks ws c → ws ≡ name_word (name_of c) ∷ rest_of c
 asks_words ws Check h = h
@@ -131,6 +149,7 @@ asks_words ws (Gv d n) h = h.same
 asks_words ws (Boxes chi v) h = h.same
 asks_words ws (Generate k) h = h.same
 asks_words ws (Summary k d n) h = h.same
+asks_words ws Verify h = h
 
 pub place_first : (xs : List Word) → ((name : Name) (ws : List Word) → xs ≢ name_word name ∷ ws) → IsPlace IsCommand xs 0
 place_first xs h = here IsCommand xs (name_word CheckName ∷ [], (Check, refl)) (record {
@@ -146,6 +165,7 @@ check_rest w rest (Gv d n) h = absurd (let lengths = ap length (head h.same) in 
 check_rest w rest (Boxes chi v) h = check_or_boxes (head h.same)
 check_rest w rest (Generate k) h = absurd (let lengths = ap length (head h.same) in omega arith)
 check_rest w rest (Summary k d n) h = absurd (let lengths = ap length (head h.same) in omega arith)
+check_rest w rest Verify h = absurd (let lengths = ap length (head h) in omega arith)
 
 pub place_after_check : (xs : List Word) → xs ≢ [] → IsPlace IsCommand (name_word CheckName ∷ xs) 1
 place_after_check xs some = behind IsCommand (name_word CheckName ∷ []) xs ([], (Check, refl)) (record {
@@ -200,6 +220,7 @@ series_tail ws (Gv d n) h = other_name SeriesName GvName _ _ (λ e. cc) h.same
 series_tail ws (Boxes chi v) h = other_name SeriesName BoxesName _ _ (λ e. cc) h.same
 series_tail ws (Generate k) h = other_name SeriesName GenerateName _ _ (λ e. cc) h.same
 series_tail ws (Summary k d n) h = other_name SeriesName SummaryName _ _ (λ e. cc) h.same
+series_tail ws Verify h = other_name SeriesName VerifyName _ _ (λ e. cc) h
 
 gv_tail : (ws : List Word) (c : Command) → Asks (name_word GvName ∷ ws) c → GvTail ws
 gv_tail ws Check h = other_name GvName CheckName _ _ (λ e. cc) h
@@ -208,6 +229,7 @@ gv_tail ws (Gv d n) h = record { degree = d; upto = n; through = h.through; orde
 gv_tail ws (Boxes chi v) h = other_name GvName BoxesName _ _ (λ e. cc) h.same
 gv_tail ws (Generate k) h = other_name GvName GenerateName _ _ (λ e. cc) h.same
 gv_tail ws (Summary k d n) h = other_name GvName SummaryName _ _ (λ e. cc) h.same
+gv_tail ws Verify h = other_name GvName VerifyName _ _ (λ e. cc) h
 
 boxes_tail : (ws : List Word) (c : Command) → Asks (name_word BoxesName ∷ ws) c → BoxesTail ws
 boxes_tail ws Check h = other_name BoxesName CheckName _ _ (λ e. cc) h
@@ -216,6 +238,7 @@ boxes_tail ws (Gv d n) h = other_name BoxesName GvName _ _ (λ e. cc) h.same
 boxes_tail ws (Boxes chi v) h = record { chi = chi; entries = v; order = h.order; small = h.small; same = tail h.same }
 boxes_tail ws (Generate k) h = other_name BoxesName GenerateName _ _ (λ e. cc) h.same
 boxes_tail ws (Summary k d n) h = other_name BoxesName SummaryName _ _ (λ e. cc) h.same
+boxes_tail ws Verify h = other_name BoxesName VerifyName _ _ (λ e. cc) h
 
 generate_tail : (ws : List Word) (c : Command) → Asks (name_word GenerateName ∷ ws) c → GenerateTail ws
 generate_tail ws Check h = other_name GenerateName CheckName _ _ (λ e. cc) h
@@ -224,6 +247,7 @@ generate_tail ws (Gv d n) h = other_name GenerateName GvName _ _ (λ e. cc) h.sa
 generate_tail ws (Boxes chi v) h = other_name GenerateName BoxesName _ _ (λ e. cc) h.same
 generate_tail ws (Generate k) h = record { side = k; within = h.within; same = tail h.same }
 generate_tail ws (Summary k d n) h = other_name GenerateName SummaryName _ _ (λ e. cc) h.same
+generate_tail ws Verify h = other_name GenerateName VerifyName _ _ (λ e. cc) h
 
 summary_tail : (ws : List Word) (c : Command) → Asks (name_word SummaryName ∷ ws) c → SummaryTail ws
 summary_tail ws Check h = other_name SummaryName CheckName _ _ (λ e. cc) h
@@ -232,6 +256,23 @@ summary_tail ws (Gv d n) h = other_name SummaryName GvName _ _ (λ e. cc) h.same
 summary_tail ws (Boxes chi v) h = other_name SummaryName BoxesName _ _ (λ e. cc) h.same
 summary_tail ws (Generate k) h = other_name SummaryName GenerateName _ _ (λ e. cc) h.same
 summary_tail ws (Summary k d n) h = record { side = k; degree = d; upto = n; within = h.within; through = h.through; order = h.order; same = tail h.same }
+summary_tail ws Verify h = other_name SummaryName VerifyName _ _ (λ e. cc) h
+
+-- no word after `verify`
+verify_rest : (w : Word) (rest : List Word) (c : Command) → Asks (name_word VerifyName ∷ w ∷ rest) c → ⊥
+verify_rest w rest Check h = other_name VerifyName CheckName _ _ (λ e. cc) h
+verify_rest w rest (Series kind d n) h = other_name VerifyName SeriesName _ _ (λ e. cc) h.same
+verify_rest w rest (Gv d n) h = other_name VerifyName GvName _ _ (λ e. cc) h.same
+verify_rest w rest (Boxes chi v) h = other_name VerifyName BoxesName _ _ (λ e. cc) h.same
+verify_rest w rest (Generate k) h = other_name VerifyName GenerateName _ _ (λ e. cc) h.same
+verify_rest w rest (Summary k d n) h = other_name VerifyName SummaryName _ _ (λ e. cc) h.same
+verify_rest w rest Verify h = no_more (tail h)
+
+pub place_after_verify : (xs : List Word) → xs ≢ [] → IsPlace IsCommand (name_word VerifyName ∷ xs) 1
+place_after_verify xs some = behind IsCommand (name_word VerifyName ∷ []) xs ([], (Verify, refl)) (record {
+  other = λ w ws rest e c. verify_rest w rest c.0 c.1;
+  short = λ e. absurd (some e);
+})
 
 -- the places after `series`
 

@@ -1,11 +1,10 @@
 -- What a run answers: for each status what is deserved, and how the text was told.
 --
--- Change                  == what is seen of a source, or of a sink, before a call and after it
 -- memory_text, read_text  == the texts of want of memory and of a failed read
--- Gave io bytes           == these bytes were taken from the source without a fault, and where it tells its bytes, none are
---                             left
--- IsOver side io w         == w is the web of the file that was read, which is accepted; or that of the grid of that side, and
---                             nothing was read
+-- IsOver subject io w      == w is the web of the file that was read, which is accepted; or that of the grid, and nothing was
+--                             read; a report has no web
+-- IsRead subject           == it is read from the source: a file, or a report
+-- most_bytes subject       == the most bytes that it may have there
 -- IsOn ws io c w           == the words ask for the command c, and w is the web that it is about
 -- DeservesDone ws io text  == the text is the report of the command on that web
 -- words_text k            == the text that names the place k of the words
@@ -16,20 +15,20 @@
 -- DeservesWide ws io text  == the text names a bound of the command's work on that web that passes 2^127 - 1
 -- DeservesDiffers ws io text == the text names the first place at which the product over the integers of the reduced series of
 --                             that web and these series differ, with both values
--- DeservesRead ws io text  == the command is about a file, one read failed, and the text is that of a failed read
+-- DeservesRead ws io text  == the command is about a file or a report, one read failed, and the text is that of a failed read
 -- DeservesBegun ws io text == the command tells its report on that web piece by piece, and the text is that of the first whole
 --                             pieces, followed by that of want of memory
 -- Deserves ws io status text == the status and its text are deserved by these words and this source
 -- Told out text status result == a beginning of the text was appended to the sink, in at most a write for each byte: all of
 --                             it, and the result is the status; or less, then one write failed, and it is WriteFault
--- Reads ws io             == whatever is answered, at most MOST_BYTES + 1 bytes were taken from the source, from the front,
---                             in at most one read more than bytes, and nothing was read where the words are refused, or where
+-- Reads ws io             == whatever is answered, at most one byte more than a file or a report may have was taken from the source,
+--                             from the front, in at most one read more than bytes, and nothing was read where the words are refused, or where
 --                             the command is about a grid
 -- Answers ws io out result == some status and text are deserved, and were told. Where a source or a sink doesn't tell its
 --                             bytes, what is said of them holds of None; over answers that one which tells could give, a
 --                             run does the same. Want of memory is deserved always; where the report is told piece by piece,
 --                             it may come behind each of them
-use Rattle.std.specs.Prelude.{◌≡◌, ℕ, ◌+◌, ◌≤◌, ◌⊎◌, pos, List, [], ◌∷◌, ◌++◌, length, take, codes, Option, Some, None}
+use Rattle.std.specs.Prelude.{◌≡◌, ℕ, ◌+◌, ◌≤◌, ◌⊎◌, pos, List, [], ◌∷◌, ◌++◌, length, take, codes, ⊤}
 use Rattle.std.specs.Io.KnownBytes.{Appends, Consumes, IsAtEnd}
 use Rattle.tv_spec_plane.specs.Web.{Web}
 use Rattle.tv_spec_text.specs.Lines.{Word, Line, line_text, spelled}
@@ -38,20 +37,18 @@ use Rattle.tv_lattice.specs.declared.fault.FileFault.{FileFault}
 use Rattle.tv_spec_reports.specs.Grids.{grid}
 use Rattle.tv_text.specs.Refusals.{fault_line}
 use Rattle.tv_outside.specs.Faults.{RoseOnce}
-use Rattle.tv_outside.specs.Seen.{Seen}
 use Rattle.tv_outside.specs.Writing.{GivesAll, GivesPart}
-use Rattle.tv_top.specs.Commands.{Asks, IsCommand, side_of}
+use Rattle.tv_top.specs.Commands.{Subject, OfFile, OfGrid, OfReport, Asks, IsCommand, subject_of}
 use Rattle.tv_top.specs.Acceptance.{IsAccepted}
 use Rattle.tv_top.specs.Rejections.{FaultOf}
 use Rattle.tv_top.specs.Reports.{IsReport, IsWide, IsDiffers, IsUnsuited, IsBegun}
 use Rattle.tv_spec_plane.specs.declared.limits.TheConstants.{MOST_BYTES}
+use Rattle.tv_report_reader.specs.declared.limits.TheConstants.{MOST_REPORT_BYTES}
+pub use Rattle.tv_top.specs.Changes.{Change, Gave}
+use Rattle.tv_top.specs.Verification.{DeservesVerdict, DeservesReportFault}
 use Rattle.tv_top.specs.declared.command.Command.{Command}
 use Rattle.tv_top.specs.declared.status.Status.{Status}
 use Rattle.tv_top.specs.declared.status.Status.TheVariants.{Done, Words, File, Wide, Differs, Memory, ReadFault, WriteFault}
-
-pub record Change : Type 0 where
-  pub before : Seen
-  pub after : Seen
 
 abbrev pub memory_text : List ℕ
 memory_text = line_text (codes "refused" ∷ codes "memory" ∷ [])
@@ -62,18 +59,24 @@ read_text = line_text (codes "refused" ∷ codes "read" ∷ [])
 abbrev pub words_text : ℕ → List ℕ
 words_text place = line_text (codes "refused" ∷ codes "words" ∷ spelled (pos place) ∷ [])
 
-pub record Gave (io : Change) (bytes : List ℕ) : Type 0 where
-  pub taken : Consumes io.before.bytes io.after.bytes bytes
-  pub ended : IsAtEnd io.after.bytes
-  pub kept : io.after.faults ≡ io.before.faults
+abbrev pub IsOver : Subject → Change → Web → Type 0
+IsOver OfFile io w = (bytes : List ℕ) × Gave io bytes × IsAccepted bytes w
+IsOver (OfGrid side) io w = (io.after ≡ io.before) × (w ≡ grid side)
+IsOver OfReport io w = ⊥
 
-abbrev pub IsOver : Option ℕ → Change → Web → Type 0
-IsOver None io w = (bytes : List ℕ) × Gave io bytes × IsAccepted bytes w
-IsOver (Some side) io w = (io.after ≡ io.before) × (w ≡ grid side)
+abbrev pub IsRead : Subject → Type 0
+IsRead OfFile = ⊤
+IsRead (OfGrid side) = ⊥
+IsRead OfReport = ⊤
+
+abbrev pub most_bytes : Subject → ℕ
+most_bytes OfFile = MOST_BYTES
+most_bytes (OfGrid side) = 0
+most_bytes OfReport = MOST_REPORT_BYTES
 
 pub record IsOn (ws : List Word) (io : Change) (command : Command) (web : Web) : Type 0 where
   pub asked : Asks ws command
-  pub over : IsOver (side_of command) io web
+  pub over : IsOver (subject_of command) io web
 
 pub record DeservesDone (ws : List Word) (io : Change) (text : List ℕ) : Type 0 where
   pub command : Command
@@ -99,7 +102,7 @@ pub record DeservesFile (ws : List Word) (io : Change) (text : List ℕ) : Type 
   pub bytes : List ℕ
   pub fault : FileFault
   pub asked : Asks ws command
-  pub file : side_of command ≡ None
+  pub file : subject_of command ≡ OfFile
   pub taken : Consumes io.before.bytes io.after.bytes bytes
   pub ended : (length bytes ≡ MOST_BYTES + 1) ⊎ ((length bytes ≤ MOST_BYTES) × IsAtEnd io.after.bytes)
   pub kept : io.after.faults ≡ io.before.faults
@@ -125,7 +128,7 @@ pub record DeservesDiffers (ws : List Word) (io : Change) (text : List ℕ) : Ty
 pub record DeservesRead (ws : List Word) (io : Change) (text : List ℕ) : Type 0 where
   pub command : Command
   pub asked : Asks ws command
-  pub file : side_of command ≡ None
+  pub read : IsRead (subject_of command)
   pub rose : RoseOnce io.before.faults io.after.faults
   pub line : text ≡ read_text
 
@@ -138,11 +141,11 @@ pub record DeservesBegun (ws : List Word) (io : Change) (text : List ℕ) : Type
   pub broken_off : text ≡ pieces ++ memory_text
 
 abbrev pub Deserves : List Word → Change → Status → List ℕ → Type 0
-Deserves ws io Done text = DeservesDone ws io text
+Deserves ws io Done text = DeservesDone ws io text ⊎ DeservesVerdict ws io Done text
 Deserves ws io Words text = DeservesWords ws io text ⊎ DeservesClass ws io text
-Deserves ws io File text = DeservesFile ws io text
-Deserves ws io Wide text = DeservesWide ws io text
-Deserves ws io Differs text = DeservesDiffers ws io text
+Deserves ws io File text = DeservesFile ws io text ⊎ DeservesReportFault ws io text
+Deserves ws io Wide text = DeservesWide ws io text ⊎ DeservesVerdict ws io Wide text
+Deserves ws io Differs text = DeservesDiffers ws io text ⊎ DeservesVerdict ws io Differs text
 Deserves ws io Memory text = (text ≡ memory_text) ⊎ DeservesBegun ws io text
 Deserves ws io ReadFault text = DeservesRead ws io text
 Deserves ws io _ text = ⊥
@@ -156,11 +159,11 @@ pub record Told (out : Change) (text : List ℕ) (status result : Status) : Type
 pub record Reads (ws : List Word) (io : Change) : Type 0 where
   pub bytes : List ℕ
   pub taken : Consumes io.before.bytes io.after.bytes bytes
-  pub within : length bytes ≤ MOST_BYTES + 1
+  pub within : (c : Command) → Asks ws c → length bytes ≤ most_bytes (subject_of c) + 1
   pub calls : io.after.calls ≤ io.before.calls + length bytes + 1
   pub later : io.before.faults ≤ io.after.faults
   pub unread : (k : ℕ) → IsPlace IsCommand ws k → io.after ≡ io.before
-  pub made : (c : Command) (side : ℕ) → Asks ws c → side_of c ≡ Some side → io.after ≡ io.before
+  pub made : (c : Command) (side : ℕ) → Asks ws c → subject_of c ≡ OfGrid side → io.after ≡ io.before
 
 pub record Answers (ws : List Word) (io : Change) (out : Change) (result : Status) : Type 0 where
   pub status : Status

@@ -18,11 +18,12 @@
 -- IsBoxes ws chi v == the words of the box configurations of that Euler characteristic and of the class with those entries, each of
 --                   at most nine digits; an Euler characteristic is an exponent of the series, within the same bounds
 -- Asks ws c      == the words ask for the command
--- side_of c      == the side of the grid that the command is about; None where it is about the file
+-- Subject        == what a command is about: the file that is read, the grid of a side, or the report that is read
+-- subject_of c   == what the command is about
 -- IsAsked c      == some words ask for the command
 -- IsCommand ws   == the words of some command
 -- IsWordsError ws e == e is the first place at which the words leave every word list, or want of memory
-use Rattle.std.specs.Prelude.{◌≡◌, ℕ, ℤ, pos, ◌≤ℤ◌, List, [], ◌∷◌, map, codes, Option, Some, None, ⊤}
+use Rattle.std.specs.Prelude.{◌≡◌, ℕ, ℤ, pos, ◌≤ℤ◌, List, [], ◌∷◌, map, codes, ⊤}
 use Rattle.std.specs.List.{AllByRecursion}
 use Rattle.tv_spec_text.specs.Lines.{Word, spelled, IsNumber}
 use Rattle.tv_spec_text.specs.Places.{IsPlace}
@@ -30,9 +31,9 @@ use Rattle.tv_text.specs.declared.series.Kind.{Kind}
 use Rattle.tv_text.specs.Sections.{kind_word}
 use Rattle.tv_top.specs.declared.command.TheConstants.{MIN_SIDE, MAX_SIDE, MAX_DEGREE, MIN_ORDER, MIN_INTEGERS_ORDER, MAX_ORDER}
 use Rattle.tv_top.specs.declared.command.Command.{Command}
-use Rattle.tv_top.specs.declared.command.Command.TheVariants.{Check, Series, Gv, Boxes, Generate, Summary}
+use Rattle.tv_top.specs.declared.command.Command.TheVariants.{Check, Series, Gv, Boxes, Generate, Summary, Verify}
 use Rattle.tv_top.specs.declared.command.Name.{Name}
-use Rattle.tv_top.specs.declared.command.Name.TheVariants.{Check as CheckName, Series as SeriesName, Gv as GvName, Boxes as BoxesName, Generate as GenerateName, Summary as SummaryName}
+use Rattle.tv_top.specs.declared.command.Name.TheVariants.{Check as CheckName, Series as SeriesName, Gv as GvName, Boxes as BoxesName, Generate as GenerateName, Summary as SummaryName, Verify as VerifyName}
 use Rattle.tv_top.specs.declared.command.WordsError.{WordsError}
 use Rattle.tv_top.specs.declared.command.WordsError.TheVariants.{At, Memory}
 
@@ -58,6 +59,7 @@ name_word GvName = codes "gv"
 name_word BoxesName = codes "boxes"
 name_word GenerateName = codes "generate"
 name_word SummaryName = codes "summary"
+name_word VerifyName = codes "verify"
 
 abbrev pub series_words : Kind → ℕ → ℤ → List Word
 series_words kind degree upto = name_word SeriesName ∷ kind_word kind ∷ spelled (pos degree) ∷ spelled upto ∷ []
@@ -106,14 +108,21 @@ Asks ws (Gv degree upto) = IsGv ws degree upto
 Asks ws (Boxes chi entries) = IsBoxes ws chi entries
 Asks ws (Generate side) = IsGenerate ws side
 Asks ws (Summary side degree upto) = IsSummaryOf ws side degree upto
+Asks ws Verify = ws ≡ name_word VerifyName ∷ []
 
-abbrev pub side_of : Command → Option ℕ
-side_of Check = None
-side_of (Series kind degree upto) = None
-side_of (Gv degree upto) = None
-side_of (Boxes chi entries) = None
-side_of (Generate side) = Some side
-side_of (Summary side degree upto) = Some side
+pub data Subject : Type 0 where
+  OfFile : Subject
+  OfGrid : ℕ → Subject
+  OfReport : Subject
+
+abbrev pub subject_of : Command → Subject
+subject_of Check = OfFile
+subject_of (Series kind degree upto) = OfFile
+subject_of (Gv degree upto) = OfFile
+subject_of (Boxes chi entries) = OfFile
+subject_of (Generate side) = OfGrid side
+subject_of (Summary side degree upto) = OfGrid side
+subject_of Verify = OfReport
 
 abbrev pub IsAsked : Command → Type 0
 IsAsked c = (ws : List Word) × Asks ws c

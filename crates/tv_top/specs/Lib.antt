@@ -7,6 +7,8 @@ pub mod Entries
 pub mod Reports
 pub mod Rejections
 pub mod Status
+pub mod Changes
+pub mod Verification
 pub mod Answers
 pub mod Replies
 pub mod Listings

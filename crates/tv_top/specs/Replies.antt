@@ -1,5 +1,6 @@
 -- What is to be told before it is told.
 --
+-- SaysText r status text      == the answer has the status and the text; a failure is want of memory
 -- Says r status line          == the answer has the status and the line; a failure is want of memory
 -- IsPrinted k f text          == the text is the report of the family f, of which each coefficient is small
 -- Prints k f r                == the answer is Done with that text; a failure is want of memory
@@ -17,6 +18,9 @@
 -- IsAnswered c w r            == the outcome is deserved by the command over this web; a failure is want of memory
 -- Judges c bytes status text  == the status and the text are deserved by these bytes, all of the source
 -- IsJudged c bytes r          == the outcome is so; a failure is want of memory
+-- HasVerdict q r              == the answer is a verdict on the report q; a failure is want of memory
+-- Checks bytes status text    == the status and the text are a verdict on a report that the bytes spell, or say why they are none
+-- IsChecked bytes r           == the answer is so; a failure is want of memory
 -- Fails ws io f               == the failure is one of reading that is deserved, or want of memory
 -- Replies ws io r             == the outcome is deserved; a failure is as above
 use Rattle.std.specs.Prelude.{◌≡◌, ◌⊎◌, ℤ, List, ◌++◌, ℕ, Result, Ok, Err, MatchResult, ⊤}
@@ -41,6 +45,11 @@ use Rattle.tv_top.specs.Acceptance.{IsAccepted}
 use Rattle.tv_top.specs.Boxes.{Suits}
 use Rattle.tv_top.specs.Reports.{IsReport, IsWide, IsDiffers, IsUnsuited, IsBegun}
 use Rattle.tv_top.specs.Rejections.{FaultOf}
+use Rattle.tv_lattice.specs.declared.fault.ReportFault.{ReportFault}
+use Rattle.tv_integers.specs.declared.report.Report.{Report}
+use Rattle.tv_report_reader.specs.declared.fault.ReportError.TheVariants.{Fault as ReportRefusal}
+use Rattle.tv_report_reader.specs.Faults.{IsReport as IsReportText, IsReportFault}
+use Rattle.tv_top.specs.Verification.{IsVerdictOn, report_fault_line}
 use Rattle.tv_top.specs.Answers.{Change, Deserves, DeservesRead, words_text, memory_text, read_text}
 use Rattle.tv_top.specs.declared.command.Command.{Command}
 use Rattle.tv_top.specs.declared.command.Command.TheVariants.{Boxes}
@@ -53,8 +62,11 @@ use Rattle.tv_top.specs.declared.answer.Outcome.{Outcome}
 use Rattle.tv_top.specs.declared.answer.Outcome.TheVariants.{Text, Pieces}
 use Rattle.tv_top.specs.declared.answer.Failure.TheVariants.{Memory, Read}
 
+abbrev pub SaysText : Result Answer Failure → Status → List ℕ → Type 0
+SaysText r status text = MatchResult r (λ a. (a.status ≡ status) × (a.text.items ≡ text)) (λ e. e ≡ Memory)
+
 abbrev pub Says : Result Answer Failure → Status → Line → Type 0
-Says r status line = MatchResult r (λ a. (a.status ≡ status) × (a.text.items ≡ line_text line)) (λ e. e ≡ Memory)
+Says r status line = SaysText r status (line_text line)
 
 pub record IsPrinted (kind : Kind) (f : Family ℤ) (text : List ℕ) : Type 0 where
   pub family : IsFamily IsAny wholes f
@@ -114,6 +126,16 @@ Judges c bytes s text = (w : Web) × IsAccepted bytes w × CarriesOut c w s text
 
 abbrev pub IsJudged : Command → List ℕ → Result Outcome Failure → Type 0
 IsJudged c bytes r = MatchResult r (Stands (Judges c bytes)) (λ e. e ≡ Memory)
+
+abbrev pub HasVerdict : Report → Result Answer Failure → Type 0
+HasVerdict q r = MatchResult r (λ a. IsVerdictOn q a.status a.text.items) (λ e. e ≡ Memory)
+
+abbrev pub Checks : List ℕ → Status → List ℕ → Type 0
+Checks bytes File text = (f : ReportFault) × IsReportFault bytes (ReportRefusal f) × (text ≡ line_text (report_fault_line f))
+Checks bytes s text = (q : Report) × IsReportText bytes q × IsVerdictOn q s text
+
+abbrev pub IsChecked : List ℕ → Result Answer Failure → Type 0
+IsChecked bytes r = MatchResult r (λ a. Checks bytes a.status a.text.items) (λ e. e ≡ Memory)
 
 abbrev pub Fails : List Word → Change → Failure → Type 0
 Fails ws io Memory = ⊤

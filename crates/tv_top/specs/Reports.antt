@@ -1,4 +1,4 @@
--- What each command answers to the web that it is about: one row for each command.
+-- What each command answers to the web that it is about: one row for each command. `verify` is about no web.
 --
 -- IsCrowdLine w d n line  == the line names a class that has too many configurations
 -- IsSpreadLine w d n line == the line names a class and an exponent at which the numbers that meet in its division are too
@@ -30,7 +30,7 @@ use Rattle.tv_top.specs.SeriesReport.{IsSeriesReport, IsCrowded, IsSpreadOut}
 use Rattle.tv_top.specs.Integers.{IsMajorantBeyond, IsFirstDifference}
 use Rattle.tv_top.specs.Boxes.{IsUnsuitedAt, IsBoxesReport, IsBeginning}
 use Rattle.tv_top.specs.declared.command.Command.{Command}
-use Rattle.tv_top.specs.declared.command.Command.TheVariants.{Check, Series, Gv, Boxes, Generate, Summary}
+use Rattle.tv_top.specs.declared.command.Command.TheVariants.{Check, Series, Gv, Boxes, Generate, Summary, Verify}
 
 abbrev pub IsCrowdLine : Web → ℕ → ℤ → Line → Type 0
 IsCrowdLine w degree upto line = (v : List ℤ) × IsCrowded w degree upto v × (line ≡ crowd_line v)
@@ -63,6 +63,7 @@ IsReport (Gv degree upto) w text = IsIntegersReport w degree upto text
 IsReport (Boxes chi entries) w text = IsBoxesReport w entries chi text
 IsReport (Generate side) w text = text ≡ grid_text side
 IsReport (Summary side degree upto) w text = IsSummaryReport side degree upto text
+IsReport Verify w text = ⊥
 
 abbrev pub IsWide : Command → Web → Line → Type 0
 IsWide Check w line = ⊥
@@ -71,6 +72,7 @@ IsWide (Gv degree upto) w line = IsIntegersWide w degree upto line
 IsWide (Boxes chi entries) w line = ⊥
 IsWide (Generate side) w line = ⊥
 IsWide (Summary side degree upto) w line = IsCrowdLine w degree upto line
+IsWide Verify w line = ⊥
 
 abbrev pub IsDiffers : Command → Web → Line → Type 0
 IsDiffers (Gv degree upto) w line = IsDifferenceLine w degree upto line

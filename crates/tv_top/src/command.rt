@@ -45,6 +45,8 @@ pub enum Command {
     /// What the report of that grid's full series, in degrees through `degree` (0 to 24) and with exponents through `upto` (-64 to
     /// 64), counts and sums.
     Summary { side: u32, degree: u32, upto: i64 },
+    /// Whether the integers of a report have its series.
+    Verify,
 }
 
 /// The first word of a command.
@@ -62,6 +64,8 @@ pub(crate) enum Name {
     Generate,
     /// `summary`
     Summary,
+    /// `verify`
+    Verify,
 }
 
 /// Why words ask for nothing.
@@ -90,6 +94,7 @@ pub fn parse_words(alloc: Global, words: &[String]) -> Result<Command, WordsErro
         Name::Boxes => boxes(alloc, rest),
         Name::Generate => generate(rest),
         Name::Summary => summary(rest),
+        Name::Verify => verify(rest),
     }
 }
 
@@ -184,6 +189,16 @@ fn summary(rest: &[String]) -> Result<Command, WordsError>
     Ok(Command::Summary { side, degree, upto })
 }
 
+// The command of the word `verify` and what follows it.
+fn verify(rest: &[String]) -> Result<Command, WordsError>
+    ensures { let words = name_word Name.Verify ∷ map string_bytes rest.now in MatchResult result (Asks words) (IsWordsError words) }
+{
+    if !rest.is_empty() {
+        return Err(WordsError::At(1));
+    }
+    Ok(Command::Verify)
+}
+
 // The command that the first word names, and what follows it.
 fn after_name<'a>(words: &'a [String]) -> Option<(Name, &'a [String])>
     ensures { MatchOption result
@@ -205,8 +220,11 @@ fn after_name<'a>(words: &'a [String]) -> Option<(Name, &'a [String])>
     if let Some(rest) = after_word(words, "generate") {
         return Some((Name::Generate, rest));
     }
-    match after_word(words, "summary") {
-        Some(rest) => Some((Name::Summary, rest)),
+    if let Some(rest) = after_word(words, "summary") {
+        return Some((Name::Summary, rest));
+    }
+    match after_word(words, "verify") {
+        Some(rest) => Some((Name::Verify, rest)),
         None => None,
     }
 }

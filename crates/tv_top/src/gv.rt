@@ -88,7 +88,8 @@ fn print(alloc: Global, series: Graded<Whole>, integers: Integers) -> Result<Ans
     }
 }
 
-fn beyond_majorant(alloc: Global, class: Class, exponent: i64) -> Result<Answer, Failure>
+/// The refusal of a majorant that is too wide.
+pub(crate) fn beyond_majorant(alloc: Global, class: Class, exponent: i64) -> Result<Answer, Failure>
     ensures { Says result Status.Wide (majorant_line exponent class) }
 {
     refuse(
@@ -98,7 +99,8 @@ fn beyond_majorant(alloc: Global, class: Class, exponent: i64) -> Result<Answer,
     )
 }
 
-fn differs(
+/// The refusal of series and a product that differ.
+pub(crate) fn differs(
     alloc: Global,
     class: Class,
     exponent: i64,

@@ -19,6 +19,7 @@ mod status;
 mod telling;
 #[cfg(test)]
 mod tests;
+mod verification;
 
 pub use acceptance::accept;
 pub use command::{

@@ -1,7 +1,7 @@
 //! What a run is to tell: a report, or one refusal. Nothing is written here, and each command's report is made elsewhere.
 
-ghost use Rattle.std.specs.Prelude.{◌≡◌, ℕ, List, None, map, string_bytes};
-ghost use Rattle.tv_top.specs.Commands.{Asks, IsAsked, IsOrder, side_of};
+ghost use Rattle.std.specs.Prelude.{◌≡◌, ℕ, List, map, string_bytes};
+ghost use Rattle.tv_top.specs.Commands.{Subject, OfFile, Asks, IsAsked, IsOrder, subject_of};
 ghost use Rattle.tv_top.specs.Answers.{Reads};
 ghost use Rattle.tv_top.specs.Replies.{IsAnswered, IsJudged, Replies};
 
@@ -15,6 +15,7 @@ use crate::grids::{generate_answer, summary_answer};
 use crate::gv::gv_answer;
 use crate::series::series_answer;
 use crate::status::Status;
+use crate::verification::over_report;
 use std::alloc::Global;
 use tv_degrees::grade::GradedWeb;
 use tv_lattice::fault::{FileFault, InputError};
@@ -57,6 +58,7 @@ fn answer_to<S: Source>(alloc: Global, command: Command, source: &mut S) -> Resu
         Command::Summary { side, degree, upto } => {
             in_text(summary_answer(alloc, side, degree, upto))
         }
+        Command::Verify => over_report(alloc, source),
     }
 }
 
@@ -66,7 +68,7 @@ fn over_source<S: Source>(
     source: &mut S,
 ) -> Result<Outcome, Failure>
     requires asked { IsAsked command }
-    requires file { side_of command ≡ None }
+    requires file { subject_of command ≡ OfFile }
     ensures deserved { (ws : List (List ℕ)) → Asks ws command →
         Replies ws (record { before = S.seen source.old; after = S.seen source.new }) result }
     ensures reads { (ws : List (List ℕ)) → Asks ws command →
@@ -82,7 +84,7 @@ fn over_source<S: Source>(
 
 fn judge(alloc: Global, bytes: &[u8], command: Command) -> Result<Outcome, Failure>
     requires asked { IsAsked command }
-    requires file { side_of command ≡ None }
+    requires file { subject_of command ≡ OfFile }
     ensures { IsJudged command bytes.now result }
 {
     match accept(alloc, bytes) {
@@ -95,7 +97,7 @@ fn judge(alloc: Global, bytes: &[u8], command: Command) -> Result<Outcome, Failu
 // One row for each command that is about a file.
 fn over_web(alloc: Global, web: GradedWeb, command: Command) -> Result<Outcome, Failure>
     requires asked { IsAsked command }
-    requires file { side_of command ≡ None }
+    requires file { subject_of command ≡ OfFile }
     ensures { IsAnswered command web result }
 {
     match command {
@@ -107,6 +109,7 @@ fn over_web(alloc: Global, web: GradedWeb, command: Command) -> Result<Outcome, 
         Command::Boxes { chi, class } => boxes_answer(alloc, web, chi, class),
         Command::Generate { .. } => unreachable!(),
         Command::Summary { .. } => unreachable!(),
+        Command::Verify => unreachable!(),
     }
 }
 

@@ -1,7 +1,8 @@
 use Rattle.std.proofs.Common.{◌≡◌, ◌+◌, ◌≤◌, List, ℕ, length, arith, ◌∙◌, subst}
+use Rattle.tv_top.specs.Commands.{OfFile}
 use Rattle.tv_top.specs.Replies.{IsJudged}
 use Rattle.tv_spec_plane.specs.declared.limits.TheConstants.{MOST_BYTES}
-use Rattle.tv_top.proofs.RejectedReply.{too_long_reply, judged_reply, command_reads}
+use Rattle.tv_top.proofs.RejectedReply.{too_long_reply, judged_reply, command_reads, read_failed}
 use Rattle.tv_top.proofs.reply.over_source.Goals as goal
 
 pub returns-in-Err-TooLong-clause-deserved : goal.returns-in-Err-TooLong-clause-deserved
@@ -16,7 +17,13 @@ returns-in-Err-TooLong-clause-reads g c = λ ws q.
     let outcome = rw c.in-Err-TooLong.field-0-is at takes.outcome in
     let count = outcome.0 in
     let within : length takes.bytes ≤ MOST_BYTES + 1 = omega arith in
-    command_reads ws _ c.args.command takes.bytes q c.requires.file takes.taken within takes.calls takes.later
+    command_reads ws _ c.args.command OfFile takes.bytes q c.requires.file tt takes.taken within takes.calls takes.later
+
+pub returns-in-Err-Fault-clause-deserved : goal.returns-in-Err-Fault-clause-deserved
+returns-in-Err-Fault-clause-deserved g c = λ ws q.
+    let takes = c.in-Err-Fault.ensures in
+    let outcome = rw c.in-Err-Fault.field-0-is at takes.outcome in
+    read_failed ws _ c.args.command OfFile q c.requires.file tt outcome.1
 
 pub returns-in-Err-Fault-clause-reads : goal.returns-in-Err-Fault-clause-reads
 returns-in-Err-Fault-clause-reads g c = λ ws q.
@@ -24,7 +31,7 @@ returns-in-Err-Fault-clause-reads g c = λ ws q.
     let outcome = rw c.in-Err-Fault.field-0-is at takes.outcome in
     let count = outcome.0 in
     let within : length takes.bytes ≤ MOST_BYTES + 1 = omega arith in
-    command_reads ws _ c.args.command takes.bytes q c.requires.file takes.taken within takes.calls takes.later
+    command_reads ws _ c.args.command OfFile takes.bytes q c.requires.file tt takes.taken within takes.calls takes.later
 
 pub returns-in-Ok-clause-deserved : goal.returns-in-Ok-clause-deserved
 returns-in-Ok-clause-deserved g c = λ ws q.
@@ -39,7 +46,7 @@ returns-in-Ok-clause-reads g c = λ ws q.
     let takes = c.in-Ok.ensures in
     let count = takes.outcome.within in
     let within : length takes.bytes ≤ MOST_BYTES + 1 = omega arith in
-    command_reads ws _ c.args.command takes.bytes q c.requires.file takes.taken within takes.calls takes.later
+    command_reads ws _ c.args.command OfFile takes.bytes q c.requires.file tt takes.taken within takes.calls takes.later
 
 pub returns-clause-reads : goal.returns-clause-reads
 returns-clause-reads g c = λ ws q.
@@ -47,4 +54,4 @@ returns-clause-reads g c = λ ws q.
     let outcome = rw c.in-Err-Memory.field-0-is at takes.outcome in
     let count = outcome.0 in
     let within : length takes.bytes ≤ MOST_BYTES + 1 = omega arith in
-    command_reads ws _ c.args.command takes.bytes q c.requires.file takes.taken within takes.calls takes.later
+    command_reads ws _ c.args.command OfFile takes.bytes q c.requires.file tt takes.taken within takes.calls takes.later
