@@ -15,9 +15,12 @@ use Rattle.tv_triangulation.proofs.Accepted.{tiling_triangles_pass}
 use Rattle.tv_spec_plane.specs.Graded.{IsGraded}
 use Rattle.tv_outside.specs.Faults.{Rose, RoseOnce}
 use Rattle.tv_lattice.specs.declared.fault.ReportFault.{ReportFault}
-use Rattle.tv_lattice.specs.declared.fault.ReportFault.TheVariants.{TooLong as ReportTooLong, Line as AtLine}
 use Rattle.tv_integers.specs.declared.report.Report.{Report}
-use Rattle.tv_spec_reports.specs.Grammar.{IsGv}
+use Rattle.tv_spec_reports.specs.Grammar.{GvData}
+use Rattle.tv_spec_series.specs.Families.{Family}
+use Rattle.tv_integers.specs.Kept.{Kept}
+use Rattle.tv_report_reader.specs.Told.{family_of, integers_of}
+use Rattle.tv_report_reader.proofs.Readings.{SpellsGv-unique, IsReport-accepted}
 use Rattle.tv_report_reader.specs.declared.limits.TheConstants.{MOST_REPORT_BYTES}
 use Rattle.tv_report_reader.specs.declared.fault.ReportError.TheVariants.{Fault}
 use Rattle.tv_report_reader.specs.Faults.{IsReport as IsReportText, IsReportFault}
@@ -303,29 +306,41 @@ by_unsuited ws io c w k q a u n Memory text d = inr refl
 by_unsuited ws io c w k q a u n ReadFault text d = absurd (n (rose-once _ _ d.rose))
 by_unsuited ws io c w k q a u n WriteFault text d = absurd d
 
--- a report is not refused
-report_or_fault : (bytes : List ℕ) (r : Report) (f : ReportFault) → IsReportText bytes r → IsReportFault bytes (Fault f) → ⊥
-report_or_fault bytes r ReportTooLong is x = let few = is.0 in absurd (omega arith)
-report_or_fault bytes r (AtLine n) is x = IsPlace-none IsGv (word_lines bytes) x.1.0 (is.1.0, is.1.1) x.1.2
-
 -- a report that was refused for some told bytes isn't one that they spell
 fault_or_report : (ws : List Word) (io : Change) (text told : List ℕ) (r : Report) → io.before.bytes ≡ Some told → IsReportText told r → DeservesReportFault ws io text → ⊥
 fault_or_report ws io text told r e is d = elim d.ended [
   | inl long ↦ let more = file_bytes io.before.bytes io.after.bytes told d.bytes e d.taken in let few = is.0 in absurd (omega arith)
-  | inr whole ↦ report_or_fault d.bytes r d.fault (subst (λ bytes. IsReportText bytes r) (all_of_told io.before.bytes io.after.bytes told d.bytes e d.taken whole.1) is) d.refused
+  | inr whole ↦ IsReport-accepted d.bytes r d.fault (subst (λ bytes. IsReportText bytes r) (all_of_told io.before.bytes io.after.bytes told d.bytes e d.taken whole.1) is) d.refused
 ]
 
-abbrev IsFoundIn : List ℕ → Status → Type 0
-IsFoundIn bytes s = (q : Report) × (text : List ℕ) × IsReportText bytes q × IsVerdictOn q s text
+-- bytes tell one report
+abbrev report_by : Family ℤ → Kept → Report
+report_by f k = record { series = f; integers = k }
 
-found_in : (ws : List Word) (io : Change) (told : List ℕ) (s : Status) (text : List ℕ) → io.before.bytes ≡ Some told → DeservesVerdict ws io s text → IsFoundIn told s
-found_in ws io told s text e d = (d.report, text, subst (λ bytes. IsReportText bytes d.report) (sym (told_bytes io told d.on.bytes e d.on.gave)) d.on.read, d.verdict)
+abbrev kept_of : GvData → Kept
+kept_of d = record { heights = d.heights; integers = integers_of d.sections }
+
+same_report : (bytes : List ℕ) (q r : Report) → IsReportText bytes q → IsReportText bytes r → q ≡ r
+same_report bytes q r p s =
+    let tells = SpellsGv-unique (word_lines bytes) p.1.0 s.1.0 p.1.1 s.1.1 in
+    let series : q.series ≡ r.series = p.1.2.series ∙ (ap family_of tells ∙ sym s.1.2.series) in
+    let integers : q.integers ≡ r.integers = p.1.2.integers ∙ (ap kept_of tells ∙ sym s.1.2.integers) in
+    ap (λ f. report_by f q.integers) series ∙ ap (report_by r.series) integers
+
+read_told : (ws : List Word) (io : Change) (told : List ℕ) (s : Status) (text : List ℕ) → io.before.bytes ≡ Some told → (d : DeservesVerdict ws io s text) → IsReportText told d.report
+read_told ws io told s text e d = subst (λ bytes. IsReportText bytes d.report) (sym (told_bytes io told d.on.bytes e d.on.gave)) d.on.read
+
+abbrev IsFound : Report → Status → Type 0
+IsFound r s = (text : List ℕ) × IsVerdictOn r s text
+
+found_of : (ws : List Word) (io : Change) (told : List ℕ) (r : Report) (s : Status) (text : List ℕ) → io.before.bytes ≡ Some told → IsReportText told r → DeservesVerdict ws io s text → IsFound r s
+found_of ws io told r s text e is d = (text, subst (λ q. IsVerdictOn q s text) (same_report told d.report r (read_told ws io told s text e d) is) d.verdict)
 
 by_checked : (ws : List Word) (io : Change) (told : List ℕ) (r : Report) → Asks ws Verify → io.before.bytes ≡ Some told → IsReportText told r → (Rose io.before.faults io.after.faults → ⊥)
-    → (s : Status) (text : List ℕ) → Deserves ws io s text → IsFoundIn told s ⊎ (s ≡ Memory)
+    → (s : Status) (text : List ℕ) → Deserves ws io s text → IsFound r s ⊎ (s ≡ Memory)
 by_checked ws io told r q e is n Done text d = elim d [
   | inl x ↦ absurd (on_verify ws io x.command x.web q x.on)
-  | inr x ↦ inl (found_in ws io told Done text e x)
+  | inr x ↦ inl (found_of ws io told r Done text e is x)
 ]
 by_checked ws io told r q e is n Words text d = elim d [
   | inl x ↦ absurd (IsPlace-none IsCommand ws x.place (Verify, q) x.outside)
@@ -337,11 +352,11 @@ by_checked ws io told r q e is n File text d = elim d [
 ]
 by_checked ws io told r q e is n Wide text d = elim d [
   | inl x ↦ absurd (on_verify ws io x.command x.web q x.on)
-  | inr x ↦ inl (found_in ws io told Wide text e x)
+  | inr x ↦ inl (found_of ws io told r Wide text e is x)
 ]
 by_checked ws io told r q e is n Differs text d = elim d [
   | inl x ↦ absurd (on_verify ws io x.command x.web q x.on)
-  | inr x ↦ inl (found_in ws io told Differs text e x)
+  | inr x ↦ inl (found_of ws io told r Differs text e is x)
 ]
 by_checked ws io told r q e is n Memory text d = inr refl
 by_checked ws io told r q e is n ReadFault text d = absurd (n (rose-once _ _ d.rose))
@@ -349,7 +364,7 @@ by_checked ws io told r q e is n WriteFault text d = absurd d
 
 -- a verdict is on no bytes that are refused
 verdict_or_fault : {A : Type 0} (ws : List Word) (io : Change) (told : List ℕ) (f : ReportFault) (s : Status) (text : List ℕ) → io.before.bytes ≡ Some told → IsReportFault told (Fault f) → DeservesVerdict ws io s text → A
-verdict_or_fault ws io told f s text e x d = let found = found_in ws io told s text e d in absurd (report_or_fault told found.0 f found.2 x)
+verdict_or_fault ws io told f s text e x d = absurd (IsReport-accepted told d.report f (read_told ws io told s text e d) x)
 
 by_unread : (ws : List Word) (io : Change) (told : List ℕ) (f : ReportFault) → Asks ws Verify → io.before.bytes ≡ Some told → IsReportFault told (Fault f) → (Rose io.before.faults io.after.faults → ⊥)
     → (s : Status) (text : List ℕ) → Deserves ws io s text → (s ≡ File) ⊎ (s ≡ Memory)

@@ -21,9 +21,9 @@
 -- Deserves ws io status text == the status and its text are deserved by these words and this source
 -- Told out text status result == a beginning of the text was appended to the sink, in at most a write for each byte: all of
 --                             it, and the result is the status; or less, then one write failed, and it is WriteFault
--- Reads ws io             == whatever is answered, at most one byte more than a file or a report may have was taken from the source,
---                             from the front, in at most one read more than bytes, and nothing was read where the words are refused, or where
---                             the command is about a grid
+-- Reads ws io             == whatever is answered, bytes were taken from the source, from the front, in at most one read more than
+--                             bytes: where the words ask for a command, at most one more than its file or report may have.
+--                             Nothing was read where the words are refused, or where the command is about a grid
 -- Answers ws io out result == some status and text are deserved, and were told. Where a source or a sink doesn't tell its
 --                             bytes, what is said of them holds of None; over answers that one which tells could give, a
 --                             run does the same. Want of memory is deserved always; where the report is told piece by piece,

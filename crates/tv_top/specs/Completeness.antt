@@ -6,8 +6,8 @@
 --   unsuited: where the command asks of that web what doesn't suit it, they give Words, or want of memory
 --   refused:  a command that is about a file, and told bytes that are refused, give File, or want of memory
 --   words:    words that are no command give Words, or want of memory, whatever the source holds
---   checked:  `verify` and told bytes that spell a report give a verdict on such a report: Done, or Wide or Differs with its
---             cause; or want of memory
+--   checked:  `verify` and told bytes that spell a report give a verdict on it: Done, or Wide or Differs with its cause; or want
+--             of memory
 --   unread:   `verify` and told bytes that are no report give File, or want of memory
 -- IsGiven subject io w == w is the web of the accepted file that the source tells, or that of the grid
 -- NothingFails io out == no count of faults rose in the call, and none stood at its last number
@@ -51,7 +51,7 @@ pub record Completes (ws : List Word) (io : Change) (out : Change) (result : Sta
   pub refused : (c : Command) (bytes : List ℕ) (f : FileFault) → Asks ws c → subject_of c ≡ OfFile
       → io.before.bytes ≡ Some bytes → FaultOf bytes f → NothingFails io out → (result ≡ File) ⊎ (result ≡ Memory)
   pub checked : (bytes : List ℕ) (r : Report) → Asks ws Verify → io.before.bytes ≡ Some bytes → IsReportText bytes r
-      → NothingFails io out → ((q : Report) × (text : List ℕ) × IsReportText bytes q × IsVerdictOn q result text) ⊎ (result ≡ Memory)
+      → NothingFails io out → ((text : List ℕ) × IsVerdictOn r result text) ⊎ (result ≡ Memory)
   pub unread : (bytes : List ℕ) (f : ReportFault) → Asks ws Verify → io.before.bytes ≡ Some bytes → IsReportFault bytes (Fault f)
       → NothingFails io out → (result ≡ File) ⊎ (result ≡ Memory)
   pub words : (k : ℕ) → IsPlace IsCommand ws k → (Rose out.before.faults out.after.faults → ⊥)

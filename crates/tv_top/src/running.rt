@@ -16,10 +16,10 @@ const READ_TEXT: &[u8] = b"refused read\n";
 
 /// Carries out the command that the words give, over the source's bytes or a grid, and writes its report or one refusal.
 ///
-/// The words are read first; then, where the command is about a file, the source to its end; then the whole text is made;
-/// last it is written. Want of memory may come at any time before that. A report of box configurations is made and written
-/// piece by piece: its head, each configuration, its end. Want of memory may come before each piece, and its line then follows
-/// the pieces that were written.
+/// The words are read first; then, where the command is about a file or a report, the source to its end; then the whole text is
+/// made; last it is written. Want of memory may come at any time before that. A report of box configurations is made and
+/// written piece by piece: its head, each configuration, its end. Want of memory may come before each piece, and its line then
+/// follows the pieces that were written.
 pub fn run<S: Source, K: Sink>(
     alloc: Global,
     words: &[String],

@@ -10,7 +10,7 @@ pub enum Status {
     Done,
     /// The words are no command.
     Words,
-    /// The file is refused.
+    /// The file, or the report, is refused.
     File,
     /// A number that the command needs exceeds 2^127 - 1.
     Wide,

@@ -215,3 +215,18 @@ fn a_class_with_an_entry_too_few_is_refused(rt: HostRuntime) -> Result<(), Fail>
     assert!(rt; to.bytes() == b"refused words 4\n".as_slice());
     Ok(())
 }
+
+const CONIFOLD_INTEGERS: &[u8] =
+    b"report gv\nheights 0 1 0 0\ndegree 1\nupto 2\nclass 0 0 0 0 0\nterm 0 1\nclass 1 -1 1 -1 1\nterm 1 1\nterm 2 -2\ninteger 0 1\nend\n";
+
+#[test]
+fn verifies_the_integers_of_the_resolved_conifold(rt: HostRuntime) -> Result<(), Fail> {
+    let alloc = rt.alloc();
+    let words = words(alloc, &["verify"])?;
+    let mut from = MemSource::new(CONIFOLD_INTEGERS.to_vec(alloc)?, 16, Vec::new(alloc));
+    let mut to = sink(alloc, 10, &[])?;
+    let status = run(alloc, &words, &mut from, &mut to);
+    assert!(rt; status == Status::Done);
+    assert!(rt; to.bytes() == b"report verify\nverdict yes\nend\n".as_slice());
+    Ok(())
+}
