@@ -24,10 +24,10 @@
 -- Reads ws io             == whatever is answered, bytes were taken from the source, from the front, in at most one read more than
 --                             bytes: where the words ask for a command, at most one more than its file or report may have.
 --                             Nothing was read where the words are refused, or where the command is about a grid
--- Answers ws io out result == some status and text are deserved, and were told. Where a source or a sink doesn't tell its
---                             bytes, what is said of them holds of None; over answers that one which tells could give, a
---                             run does the same. Want of memory is deserved always; where the report is told piece by piece,
---                             it may come behind each of them
+-- Answers ws io out result == some status and text are deserved, and were told. A source or a sink that doesn't tell its bytes
+--                             is seen as None, of which every statement on bytes holds; a run can't tell it from one that
+--                             does. Want of memory is deserved always; where the report is told piece by piece, it may come
+--                             in place of each piece
 use Rattle.std.specs.Prelude.{◌≡◌, ℕ, ◌+◌, ◌≤◌, ◌⊎◌, pos, List, [], ◌∷◌, ◌++◌, length, take, codes, ⊤}
 use Rattle.std.specs.Io.KnownBytes.{Appends, Consumes, IsAtEnd}
 use Rattle.tv_spec_plane.specs.Web.{Web}

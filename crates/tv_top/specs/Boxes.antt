@@ -1,9 +1,9 @@
 -- What is told of the box configurations of a class.
 --
 -- Suits w v       == v is a class of w that may be asked for: it has an entry for each point, and a degree of at most MAX_DEGREE
--- IsUnsuitedAt w v k == v is none, and k is the place of the words `boxes CHI V` at which that shows: where entries are wanting
---                   the number of words, where there are too many the first that is too many, and else, where the degree is
---                   too high, the first entry
+-- HasTooFew, HasTooMany, IsTooHigh w v k == entries are wanting, and k is the number of words `boxes CHI V`; there are too many,
+--                   and k is the place of the first that is too many; the degree is too high, and k that of the first entry
+-- IsUnsuitedAt w v k == v is none, since one of these is so
 -- IsBoxesReport w v chi text == the class may be asked for, and the text is the report of its configurations
 -- first_lines w v chi count == the head of that report, and the lines of its first configurations, as many as count or all
 -- IsBeginning w v chi text == the class may be asked for, and the text is that of such first lines

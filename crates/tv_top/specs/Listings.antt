@@ -6,8 +6,8 @@
 --                             rest, as many as some count or all, followed by that of want of memory
 -- Finishes w coming out result == some such status and text were told
 -- IsTold c w out result    == some status and text were told that the command deserves over this web
--- Steps w now then out step == the first configuration that was to come was told, and the others are still to come; or the
---                             telling is finished
+-- TellsFirst w now then out == the first configuration that was to come was told, and the others are still to come
+-- Steps w now then out step == so it is, or the telling is finished
 use Rattle.std.specs.Prelude.{◌≡◌, ℕ, ◌+◌, ◌≤◌, List, [], ◌∷◌, ◌++◌, length, take, codes}
 use Rattle.std.specs.List.{flat_map}
 use Rattle.std.specs.Io.KnownBytes.{Appends}
