@@ -1,0 +1,4 @@
+pub mod Picks
+pub mod Faults
+pub mod Joining
+pub mod Sums
