@@ -2,7 +2,7 @@
 use Rattle.std.specs.Prelude.{◌≡◌, Contains, ℕ, zero, suc, ◌+◌, ◌*◌, ◌≤◌, ℤ, pos, ◌+ℤ◌, ◌-ℤ◌, ◌*ℤ◌, ◌≤ℤ◌, List, [], ◌∷◌, length, map, unsigned_abs}
 use Rattle.std.specs.List.{AllByRecursion}
 use Rattle.std.proofs.Common.{refl, sym, ap, subst, ◌∙◌, arith, le_trans, add-mul}
-use Rattle.std.proofs.Math.Nat.{mul-le-mul_left}
+use Rattle.std.proofs.Math.Nat.{mul-le-mul_left, mul-le-mul_right}
 use Rattle.std.proofs.lemmas.Int.{ints, unsigned_abs-mul}
 use Rattle.tv_lemmas.specs.Sums.{plus}
 use Rattle.tv_lemmas.proofs.Members.{all-map, all-onto, all-filter, all-contains, all-members}
@@ -64,7 +64,7 @@ class-listed w d t k v has =
 
 pub class-small : (w : Web) (d : ℕ) (v : List ℤ) (a : Assignment) → AllByRecursion HasCoordinates w.points → HasEdgeRule w → cells_of a ≤ 24 → class_of w a ≡ v → AllByRecursion (AtMost 10000) v
 class-small w d v a small rule few e =
-    subst (AllByRecursion (AtMost 10000)) e (all-onto (AtMost (cells_of a * 402)) (AtMost 10000) (λ x h. let most = Rattle.std.proofs.Math.Nat.mul-le-mul_right 402 few in omega arith) (class_of w a) (small-on w small (compact w) rule a))
+    subst (AllByRecursion (AtMost 10000)) e (all-onto (AtMost (cells_of a * 402)) (AtMost 10000) (λ x h. let most = mul-le-mul_right 402 few in omega arith) (class_of w a) (small-on w small (compact w) rule a))
 
 pub sum-entries : (u v : List ℤ) → AllByRecursion (AtMost 10000) u → AllByRecursion (AtMost 10000) v → AllByRecursion IsEntry (plus u v)
 sum-entries u v small few = plus-small 10000 10000 100000000000 (omega arith) u v small few

@@ -4,3 +4,5 @@ pub mod Told
 pub mod Picked
 pub mod Least
 pub mod Held
+pub mod Classes
+pub mod RowAdded

@@ -4,7 +4,7 @@
 -- IsStage w d n low m t     == d and n are within their limits, low is the lowest kept, m is the greatest exponent kept, and t
 --                              is a corner
 -- IsJoin w d t h g l c v k  == h is a choice on the pending edges and g one on the new ones, of degree at most d together; l are
---                              the legs of corner t, c is the class of the new edges, v that of what the corner sees, and k is
+--                              the legs of corner t, c is the class of the new edges, with entries of at most 10,000, v that of what the corner sees, and k is
 --                              the cost of the new edges less the overlap cost
 -- moved_low floor m l k     == where a series begins that began at l, its exponents moved by k: at floor at least, else at m + 1
 --                              at most
@@ -16,6 +16,7 @@
 --                              are the joins into class v, times one
 use Rattle.std.specs.Prelude.{◌≡◌, Contains, ℕ, ◌<◌, ◌≤◌, ℤ, pos, ◌+ℤ◌, ◌-ℤ◌, ◌≤ℤ◌, List, length, unsigned_abs}
 use Rattle.std.specs.Int.{int_min, int_max}
+use Rattle.std.specs.List.{AllByRecursion}
 use Rattle.tv_ring.specs.Operations.{Operations}
 use Rattle.tv_ring.specs.Sums.{times}
 use Rattle.tv_laws_series.specs.Terms.{Terms, terms, above, upto, listed}
@@ -47,6 +48,7 @@ pub record IsJoin (w : Web) (d t : ℕ) (h g : List Rows) (l : Legs) (c v : List
   pub new : Contains (options w d t) g
   pub legs : l ≡ near_legs w (no_legs w) t h g
   pub class : c ≡ class_of w (new_part w t g)
+  pub entries : AllByRecursion (λ (x : ℤ). unsigned_abs x ≤ 10000) c
   pub near : v ≡ class_of w (near_part w t h g)
   pub within : degree_of w.heights (class_of w (near_part w t h g)) ≤ℤ pos d
   pub shift : k ≡ edge_costs w (new_part w t g) -ℤ pos (overlap_cost (near_legs w (no_legs w) t h g))

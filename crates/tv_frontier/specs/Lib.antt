@@ -2,3 +2,4 @@ pub mod Picks
 pub mod Faults
 pub mod Joining
 pub mod Sums
+pub mod Rows

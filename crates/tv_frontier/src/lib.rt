@@ -5,6 +5,7 @@
 mod class;
 mod fault;
 mod joining;
+mod joins;
 mod lowest;
 mod picks;
 

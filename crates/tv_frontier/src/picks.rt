@@ -13,11 +13,7 @@ use tv_partition::diagram::Diagram;
 use tv_spec_plane::records::CompactEdge;
 
 /// Whether exactly one corner of each compact edge is among the first `t`.
-pub(crate) fn pending_flags(
-    alloc: Global,
-    web: &GradedWeb,
-    t: u32,
-) -> Result<Vec<bool>, AllocError>
+pub(crate) fn pending_flags(alloc: Global, web: &GradedWeb, t: u32) -> Result<Vec<bool>, AllocError>
     ensures { IfOk result (λ flags. flags.items ≡ map (is_pending t) (compact web.now)) }
 {
     let edges = web.compact();
@@ -95,11 +91,7 @@ pub(crate) fn picked_diagrams(
     Ok(picked)
 }
 
-fn copy_if(
-    picked: &mut Vec<Diagram>,
-    take: bool,
-    diagram: &Diagram,
-) -> Result<(), AllocError>
+fn copy_if(picked: &mut Vec<Diagram>, take: bool, diagram: &Diagram) -> Result<(), AllocError>
     ensures { OnOk result (picked.new.items ≡ cond take (picked.old.items ++ diagram.now ∷ []) picked.old.items) }
 {
     if take {
