@@ -6,3 +6,5 @@ pub mod Least
 pub mod Held
 pub mod Classes
 pub mod RowAdded
+pub mod Exact
+pub mod Spread

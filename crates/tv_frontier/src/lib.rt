@@ -8,5 +8,6 @@ mod joining;
 mod joins;
 mod lowest;
 mod picks;
+mod spreads;
 
 pub use fault::GlueFault;
