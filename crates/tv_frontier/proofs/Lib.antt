@@ -8,3 +8,4 @@ pub mod Classes
 pub mod RowAdded
 pub mod Exact
 pub mod Spread
+pub mod Near
