@@ -9,3 +9,4 @@ pub mod RowAdded
 pub mod Exact
 pub mod Spread
 pub mod Near
+pub mod Grown

@@ -3,3 +3,4 @@ pub mod Faults
 pub mod Joining
 pub mod Sums
 pub mod Rows
+pub mod Layers

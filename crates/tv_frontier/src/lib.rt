@@ -8,6 +8,7 @@ mod joining;
 mod joins;
 mod lowest;
 mod picks;
+mod places;
 mod spreads;
 
 pub use fault::GlueFault;
