@@ -10,3 +10,4 @@ pub mod Exact
 pub mod Spread
 pub mod Near
 pub mod Grown
+pub mod Pair

@@ -6,6 +6,7 @@ mod class;
 mod fault;
 mod joining;
 mod joins;
+mod layers;
 mod lowest;
 mod picks;
 mod places;
