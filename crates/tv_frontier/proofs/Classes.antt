@@ -1,14 +1,14 @@
 -- The classes of listed assignments: how great their entries are, and what is added to them.
-use Rattle.std.specs.Prelude.{◌≡◌, Contains, ℕ, zero, suc, ◌+◌, ◌*◌, ◌≤◌, ℤ, pos, ◌+ℤ◌, ◌-ℤ◌, ◌*ℤ◌, ◌≤ℤ◌, List, [], ◌∷◌, length, map, unsigned_abs}
+use Rattle.std.specs.Prelude.{◌≡◌, Contains, ℕ, zero, suc, ◌+◌, ◌*◌, ◌≤◌, ℤ, pos, ◌+ℤ◌, ◌-ℤ◌, ◌*ℤ◌, List, [], ◌∷◌, length, unsigned_abs}
 use Rattle.std.specs.List.{AllByRecursion}
-use Rattle.std.proofs.Common.{refl, sym, ap, subst, ◌∙◌, arith, le_trans, add-mul}
+use Rattle.std.proofs.Common.{refl, sym, ap, subst, ◌∙◌, arith, add-mul}
 use Rattle.std.proofs.Math.Nat.{mul-le-mul_left, mul-le-mul_right}
 use Rattle.std.proofs.lemmas.Int.{ints, unsigned_abs-mul}
 use Rattle.tv_lemmas.specs.Sums.{plus}
 use Rattle.tv_lemmas.proofs.Members.{all-map, all-onto, all-filter, all-contains, all-members}
 use Rattle.tv_spec_plane.specs.declared.records.CompactEdge.{CompactEdge}
 use Rattle.tv_spec_plane.specs.Graded.{IsGraded}
-use Rattle.tv_spec_plane.specs.Web.{Web, compact, edge_class, degree_of}
+use Rattle.tv_spec_plane.specs.Web.{Web, compact, edge_class}
 use Rattle.tv_lattice.specs.Limits.{HasCoordinates}
 use Rattle.tv_lattice.specs.Classes.{IsEntry}
 use Rattle.tv_laws_edges.specs.Rule.{HasRule, HasEdgeRule}
@@ -16,8 +16,8 @@ use Rattle.tv_partition.specs.Rows.{size}
 use Rattle.tv_degrees.specs.Edges.{IsNormalDegree}
 use Rattle.tv_degrees.specs.Grades.{IsHeighted}
 use Rattle.tv_degrees.proofs.Bounds.{class_entries-small}
-use Rattle.tv_spec_boxes.specs.Assignments.{Rows, Assignment, zeros, times, class_by, class_on, class_of, class_difference, assignments}
-use Rattle.tv_spec_boxes.proofs.Vectors.{same_vector_tells, length-class_of}
+use Rattle.tv_spec_boxes.specs.Assignments.{Rows, Assignment, zeros, times, class_on, class_of, class_difference, assignments}
+use Rattle.tv_spec_boxes.proofs.Vectors.{same_vector_tells}
 use Rattle.tv_spec_series.specs.Families.{HasPlace}
 use Rattle.tv_laws_counts.specs.Ways.{IsListed}
 use Rattle.tv_laws_counts.proofs.Degrees.{assignments_listed}
@@ -25,7 +25,6 @@ use Rattle.tv_laws_frontier.specs.Frontier.{is_of_state, of_state}
 use Rattle.tv_laws_frontier.specs.StateClasses.{HasClass}
 use Rattle.tv_laws_frontier.proofs.Crowded.{state-class}
 use Rattle.tv_assignment.specs.Size.{cells_of}
-use Rattle.tv_assignment.proofs.Listed.{listed-few}
 
 abbrev AtMost : ℕ → ℤ → Type 0
 AtMost m x = unsigned_abs x ≤ m

@@ -1,6 +1,6 @@
 -- All classes of a state, joined, are the joins: through the greatest exponent kept the addends of one state and one choice on the
 -- new edges add up to the number that is joined.
-use Rattle.std.specs.Prelude.{◌≡◌, Contains, ℕ, zero, suc, ◌+◌, ◌*◌, ◌<◌, ◌≤◌, Bool, true, false, cond, int_le, ℤ, pos, ◌+ℤ◌, ◌-ℤ◌, ◌≤ℤ◌, ◌<ℤ◌, List, [], ◌∷◌, length, unsigned_abs}
+use Rattle.std.specs.Prelude.{◌≡◌, Contains, ℕ, zero, suc, ◌+◌, ◌*◌, Bool, true, false, cond, int_le, ℤ, pos, ◌+ℤ◌, ◌-ℤ◌, ◌≤ℤ◌, List, [], ◌∷◌, length}
 use Rattle.std.specs.List.{AllByRecursion, IsDistinct}
 use Rattle.std.proofs.Common.{refl, sym, ap, subst, ◌∙◌, arith}
 use Rattle.std.proofs.lemmas.Int.{ints}
@@ -11,7 +11,6 @@ use Rattle.tv_ring.specs.Operations.{Operations}
 use Rattle.tv_ring.specs.Sums.{total_below}
 use Rattle.tv_ring.proofs.Sums.{total_below-none, total_below-more}
 use Rattle.tv_spec_plane.specs.Web.{Web, degree_of}
-use Rattle.tv_spec_plane.specs.Graded.{IsGraded}
 use Rattle.tv_cells.specs.Extras.{count}
 use Rattle.tv_spec_boxes.specs.Assignments.{Rows, Assignment, no_legs, class_of, class_difference, same_vector}
 use Rattle.tv_spec_boxes.specs.Numbers.{lowest, box_bound}
@@ -27,7 +26,7 @@ use Rattle.tv_laws_frontier.proofs.Parted.{once, sum_of-zero}
 use Rattle.tv_frontier.specs.Joining.{join_number}
 use Rattle.tv_frontier.specs.Sums.{Addend, added_up}
 use Rattle.tv_frontier.specs.Rows.{target, addend_of, row_addends, IsPart}
-use Rattle.tv_frontier.proofs.Classes.{IsOfListed, class-listed, difference-plus}
+use Rattle.tv_frontier.proofs.Classes.{class-listed, difference-plus}
 
 vector_equality : IsEquality same_vector
 vector_equality = record { own = same_vector-same; tells = same_vector_tells }

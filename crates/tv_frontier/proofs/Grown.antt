@@ -13,8 +13,8 @@ use Rattle.tv_laws_frontier.specs.Steps.{near_part}
 use Rattle.tv_laws_frontier.proofs.Listed.{choice_equality}
 use Rattle.tv_frontier.specs.Faults.{IsCrowded}
 use Rattle.tv_frontier.specs.Sums.{Addend}
-use Rattle.tv_frontier.specs.Rows.{after_of, row_addends, HasRoom, HasShape, Holding, KeepsRows, IsCrowdedBy}
-use Rattle.tv_frontier.specs.Layers.{AllHold, AllShaped, pair_addends, GrowsBy, CrowdedIn}
+use Rattle.tv_frontier.specs.Rows.{after_of, row_addends, HasRoom, Holding}
+use Rattle.tv_frontier.specs.Layers.{AllHold, pair_addends, GrowsBy, CrowdedIn}
 
 off-and : (a b : Bool) → b ≡ false → (a && b) ≡ false
 off-and true b e = e

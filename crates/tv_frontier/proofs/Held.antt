@@ -1,16 +1,14 @@
 -- What a family is into which some numbers were added: one series more.
-use Rattle.std.proofs.Common.{◌≡◌, ℕ, ◌+◌, ◌*◌, ◌≤◌, Bool, true, false, cond, ℤ, pos, ◌+ℤ◌, ◌≤ℤ◌, List, [], ◌∷◌, ◌++◌, Contains, refl, sym, ◌∙◌, ap, subst, inl, inr, arith}
-use Rattle.std.specs.List.{AllByRecursion}
+use Rattle.std.proofs.Common.{◌≡◌, true, false, cond, ℤ, pos, ◌+ℤ◌, ◌≤ℤ◌, List, [], ◌∷◌, ◌++◌, Contains, refl, sym, ◌∙◌, ap, subst, inl, inr, arith}
 use Rattle.std.proofs.lemmas.Int.{ints, clamps}
 use Rattle.tv_ring.specs.Operations.{Operations, RingLaws}
 use Rattle.tv_ring.specs.Sums.{whole_times}
 use Rattle.tv_ring.proofs.Times.{times-none, whole_times-pos, whole_times-add}
 use Rattle.tv_laws_series.specs.Terms.{Terms, IsWithin}
-use Rattle.tv_laws_series.specs.Series.{series_sum, series_cut}
 use Rattle.tv_laws_series.proofs.NormalForm.{bool_cases}
 use Rattle.tv_spec_boxes.specs.Assignments.{same_vector}
 use Rattle.tv_spec_boxes.proofs.Vectors.{same_vector_tells}
-use Rattle.tv_spec_series.specs.Families.{Row, Family, row, without_rows, classes, coefficient, coefficient_of, added, IsFamily, IsAddend}
+use Rattle.tv_spec_series.specs.Families.{Family, without_rows, classes, coefficient, coefficient_of, added, IsAddend}
 use Rattle.tv_spec_series.proofs.Order.{same_vector-equal}
 use Rattle.tv_spec_series.proofs.Rows.{put_all, put_classes}
 use Rattle.tv_spec_series.proofs.Members.{members_put}

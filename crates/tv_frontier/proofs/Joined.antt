@@ -1,6 +1,5 @@
 -- One series of a state and one corner: their product has the joins as its coefficients.
-use Rattle.std.specs.Prelude.{◌≡◌, Contains, ℕ, zero, suc, ◌+◌, ◌-◌, ◌*◌, ◌<◌, ◌≤◌, ◌^◌, min, ◌⊎◌, ℤ, pos, negsuc, ◌+ℤ◌, ◌-ℤ◌, ◌≤ℤ◌, ◌<ℤ◌, List, length, unsigned_abs}
-use Rattle.std.specs.Int.{int_min, int_max}
+use Rattle.std.specs.Prelude.{◌≡◌, ℕ, zero, suc, ◌+◌, ◌-◌, ◌*◌, ◌<◌, ◌≤◌, ◌^◌, min, ◌⊎◌, ℤ, pos, negsuc, ◌+ℤ◌, ◌-ℤ◌, ◌≤ℤ◌, ◌<ℤ◌, List, length, unsigned_abs}
 use Rattle.std.proofs.Common.{refl, sym, ap, subst, ◌∙◌, arith, le_trans, inl, inr}
 use Rattle.std.proofs.Math.Nat.{mul-le-mul_right}
 use Rattle.std.proofs.lemmas.Int.{ints, clamps}
@@ -32,7 +31,7 @@ use Rattle.tv_laws_counts.proofs.Convolutions.{split_is, convolved_is, total_bel
 use Rattle.tv_laws_counts.proofs.Larger.{no_extras}
 use Rattle.tv_laws_counts.proofs.InRings.{multiples, convolution-multiples}
 use Rattle.tv_laws_frontier.specs.Frontier.{state_number, kept_upto}
-use Rattle.tv_laws_frontier.specs.Steps.{states, options, new_part, near_part, near_legs, before, joined, stepped}
+use Rattle.tv_laws_frontier.specs.Steps.{new_part, near_part, near_legs, before}
 use Rattle.tv_laws_frontier.proofs.PartialSums.{no_diagrams}
 use Rattle.tv_laws_frontier.proofs.Joins.{join-below, crowd_of_join, crowd_of_near}
 use Rattle.tv_laws_frontier.proofs.Step.{step_of_state}
@@ -41,7 +40,7 @@ use Rattle.tv_spec_partial.specs.Partial.{chosen}
 use Rattle.tv_assigned_series.specs.Terms.{IsCornerFrom}
 use Rattle.tv_assigned_series.proofs.Fronts.{size_convolution-multiples}
 use Rattle.tv_frontier.specs.Faults.{IsCrowded}
-use Rattle.tv_frontier.specs.Joining.{lowest_kept, IsStage, IsJoin, moved_low, moved_at, moved_terms, IsOfState, join_number, IsJoined}
+use Rattle.tv_frontier.specs.Joining.{IsStage, IsJoin, moved_low, moved_at, moved_terms, IsOfState, join_number, IsJoined}
 
 pub moved_at-is : {A : Type 0} (r : Operations A) (s : Terms A) (k low : ℤ) (i : ℕ) → moved_at r s k low i ≡ coefficient r s ((low +ℤ pos i) -ℤ k)
 unfolding moved_at

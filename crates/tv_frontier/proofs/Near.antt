@@ -1,6 +1,6 @@
 -- What is picked by truths is what the corner and the choices are: the diagrams on the pending edges, the degrees, and the class
 -- of what a corner sees.
-use Rattle.std.specs.Prelude.{◌≡◌, ℕ, zero, suc, Bool, true, false, cond, ◌&&◌, ◌||◌, not, nat_eq, nat_lt, ℤ, pos, ◌+ℤ◌, List, [], ◌∷◌, map, filter, length, slice_index_or}
+use Rattle.std.specs.Prelude.{◌≡◌, ℕ, zero, suc, Bool, true, false, cond, ◌&&◌, ◌||◌, not, nat_lt, ℤ, pos, ◌+ℤ◌, List, [], ◌∷◌, map, filter, length, slice_index_or}
 use Rattle.std.proofs.Common.{refl, sym, ap, ◌∙◌, arith}
 use Rattle.std.proofs.lemmas.Int.{ints}
 use Rattle.tv_lemmas.specs.Sums.{plus}
@@ -9,7 +9,7 @@ use Rattle.tv_spec_plane.specs.Web.{Web, compact}
 use Rattle.tv_spec_boxes.specs.Assignments.{Rows, Assignment, class_of}
 use Rattle.tv_spec_boxes.proofs.Vectors.{length-class_of, length-plus}
 use Rattle.tv_spec_partial.specs.Partial.{is_met, is_pending, is_empty, rests_on, chosen}
-use Rattle.tv_laws_frontier.specs.Steps.{is_new, put, nothing, new_part, near_part}
+use Rattle.tv_laws_frontier.specs.Steps.{put, nothing, new_part, near_part}
 use Rattle.tv_laws_frontier.proofs.Classes.{entries-same, class-entry}
 use Rattle.tv_laws_frontier.proofs.First.{nothing-long}
 use Rattle.tv_laws_frontier.proofs.Placed.{put-long}

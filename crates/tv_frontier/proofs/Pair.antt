@@ -1,24 +1,23 @@
 -- One state and one choice on the new edges: what is computed of them is what the corner has.
 use Rattle.std.specs.Prelude.{◌≡◌, Contains, ℕ, zero, suc, ◌<◌, ◌≤◌, Bool, false, ℤ, pos, ◌≤ℤ◌, ◌<ℤ◌, List, [], ◌∷◌, ◌++◌, map, filter, length}
 use Rattle.std.specs.List.{AllByRecursion, IsDistinct}
-use Rattle.std.proofs.Common.{refl, sym, ap, subst, ◌∙◌, arith, le_trans, get_or}
+use Rattle.std.proofs.Common.{sym, ap, subst, ◌∙◌, le_trans, get_or}
 use Rattle.std.proofs.Math.ListN.{set}
 use Rattle.tv_lemmas.specs.Sums.{plus}
 use Rattle.tv_lemmas.proofs.Members.{all-filter, all-contains, all-any, all-onto}
 use Rattle.tv_ring.specs.Operations.{Operations}
 use Rattle.tv_spec_series.specs.Families.{Family}
-use Rattle.tv_spec_plane.specs.declared.records.CompactEdge.{CompactEdge}
 use Rattle.tv_spec_plane.specs.Graded.{HasDegree, IsGraded}
 use Rattle.tv_spec_plane.specs.Web.{Web, compact, degree_of}
 use Rattle.tv_lattice.specs.Limits.{HasCoordinates}
 use Rattle.tv_lattice.specs.Classes.{IsEntry}
 use Rattle.tv_laws_edges.specs.Rule.{HasEdgeRule}
 use Rattle.tv_spec_boxes.specs.Assignments.{Rows, Assignment, class_of, same_choice}
-use Rattle.tv_spec_boxes.proofs.Vectors.{length-class_of, length-plus}
+use Rattle.tv_spec_boxes.proofs.Vectors.{length-class_of}
 use Rattle.tv_spec_partial.specs.Partial.{is_pending, chosen}
 use Rattle.tv_laws_counts.proofs.Choices.{IsChoice, choices_are}
 use Rattle.tv_laws_counts.proofs.Degrees.{weights, weights_positive}
-use Rattle.tv_laws_frontier.specs.Steps.{is_new, put, nothing, states, options, choices_on, new_part, near_part}
+use Rattle.tv_laws_frontier.specs.Steps.{is_new, put, nothing, states, options, new_part, near_part}
 use Rattle.tv_assignment.specs.Size.{cells_of}
 use Rattle.tv_assignment.proofs.Listed.{cells-few}
 use Rattle.tv_frontier.specs.Picks.{picks, put_by}

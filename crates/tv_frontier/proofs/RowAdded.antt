@@ -1,7 +1,7 @@
 -- One class of a state joined and added to the family of the choice after the corner.
 use Rattle.std.specs.Prelude.{◌≡◌, Contains, ℕ, zero, suc, ◌+◌, ◌*◌, ◌<◌, ◌≤◌, min, Bool, true, false, cond, int_le, ℤ, pos, ◌+ℤ◌, ◌≤ℤ◌, ◌<ℤ◌, ◌-ℤ◌, negsuc, take, Some, slice_get, List, [], ◌∷◌, ◌++◌, length, unsigned_abs}
 use Rattle.std.specs.Int.{int_min}
-use Rattle.std.proofs.Common.{refl, sym, ap, subst, ◌∙◌, inl, inr, arith, le_trans, append-nil, append_assoc, add-mul}
+use Rattle.std.proofs.Common.{refl, sym, ap, subst, ◌∙◌, inl, arith, le_trans, append-nil, append_assoc, add-mul}
 use Rattle.std.proofs.Math.Nat.{mul-le-mul}
 use Rattle.std.proofs.lemmas.Int.{ints, clamps}
 use Rattle.tv_lemmas.specs.Sums.{plus}
@@ -39,9 +39,9 @@ use Rattle.tv_laws_frontier.specs.StateClasses.{HasClass}
 use Rattle.tv_laws_frontier.proofs.StateClasses.{classes_step}
 use Rattle.tv_frontier.specs.Faults.{IsCrowded}
 use Rattle.tv_frontier.specs.Joining.{lowest_kept, IsStage, IsJoin, IsOfState, join_number, IsJoined}
-use Rattle.tv_frontier.specs.Sums.{Addend, added_up, Holds}
+use Rattle.tv_frontier.specs.Sums.{Addend, added_up}
 use Rattle.tv_frontier.specs.Rows.{after_of, target, addend_of, row_addends, sizes_up, HasRoom, HasShape, Holding, KeepsRows, IsCrowdedBy, IsPart}
-use Rattle.tv_frontier.proofs.Classes.{IsOfListed, class-listed, class-small, sum-entries, class-place, difference-plus}
+use Rattle.tv_frontier.proofs.Classes.{class-listed, class-small, sum-entries, class-place, difference-plus}
 use Rattle.tv_frontier.proofs.Held.{holds-more}
 
 -- ---- sizes of sums

@@ -1,11 +1,8 @@
 -- A choice spread over all edges: how many cells it has, and what it is at a corner.
-use Rattle.std.specs.Prelude.{◌≡◌, Contains, ℕ, zero, suc, ◌+◌, ◌<◌, ◌≤◌, Bool, true, false, cond, ℤ, pos, ◌+ℤ◌, ◌-ℤ◌, ◌≤ℤ◌, List, [], ◌∷◌, map, filter, length, slice_index_or, unsigned_abs}
+use Rattle.std.specs.Prelude.{◌≡◌, Contains, ℕ, suc, ◌<◌, ◌≤◌, Bool, true, false, ℤ, pos, ◌-ℤ◌, ◌≤ℤ◌, List, [], ◌∷◌, map, filter, length, slice_index_or, unsigned_abs}
 use Rattle.std.specs.List.{AllByRecursion}
-use Rattle.std.proofs.Common.{refl, sym, ap, subst, ◌∙◌, arith, le_trans, get_or}
-use Rattle.std.proofs.lemmas.Int.{ints}
-use Rattle.std.proofs.lemmas.List.{get_or_read}
+use Rattle.std.proofs.Common.{refl, sym, ap, subst, ◌∙◌, arith, le_trans}
 use Rattle.tv_lemmas.proofs.Members.{all-filter}
-use Rattle.tv_partition.specs.Rows.{size}
 use Rattle.tv_spec_plane.specs.declared.records.CompactEdge.{CompactEdge}
 use Rattle.tv_spec_plane.specs.Graded.{HasDegree, IsGraded}
 use Rattle.tv_spec_plane.specs.Web.{Web, compact, degree_of}

@@ -6,7 +6,7 @@
 --                             together and k is the choice after them, the addends of the classes, else nothing
 -- GrowsBy .. adds keys olds news == whatever the families hold, each holds its addends besides then
 -- CrowdedIn .. adds keys olds v == v is crowded, if the families hold some addends and there is room for the further ones
-use Rattle.std.specs.Prelude.{ℕ, suc, ℤ, pos, List, [], ◌∷◌, ◌++◌, cond, ◌&&◌, int_le, ⊤}
+use Rattle.std.specs.Prelude.{ℕ, ℤ, pos, List, [], ◌∷◌, ◌++◌, cond, ◌&&◌, int_le, ⊤}
 use Rattle.std.specs.List.{AllByRecursion}
 use Rattle.tv_ring.specs.Operations.{Operations}
 use Rattle.tv_spec_plane.specs.Web.{Web, degree_of}

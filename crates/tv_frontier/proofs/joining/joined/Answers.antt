@@ -1,5 +1,5 @@
-use Rattle.std.proofs.Common.{Err, ◌≡◌, ◌≤◌, refl, sym, ap, ◌∙◌, subst, arith, w64, to_z, of_z}
-use Rattle.std.specs.Prelude.{ℤ, pos, ◌+ℤ◌, unsigned_abs}
+use Rattle.std.proofs.Common.{Err, ◌≡◌, refl, ap, arith, w64}
+use Rattle.std.specs.Prelude.{pos, ◌+ℤ◌}
 use Rattle.std.proofs.lemmas.Int.{ints, to_z-of_z}
 use Rattle.std.proofs.lemmas.Option.{slice_get_within}
 use Rattle.std.proofs.lemmas.List.{length-map}

@@ -1,4 +1,4 @@
-use Rattle.std.proofs.Common.{◌≡◌, refl, get_or, arith}
+use Rattle.std.proofs.Common.{refl, get_or}
 use Rattle.std.proofs.lemmas.List.{get_or_default}
 use Rattle.tv_frontier.specs.Picks.{picks}
 use Rattle.tv_frontier.proofs.Picked.{picked-next, picked-last}

@@ -1,4 +1,4 @@
-use Rattle.std.proofs.Common.{◌≡◌, refl, get_or, arith}
+use Rattle.std.proofs.Common.{refl}
 use Rattle.tv_frontier.specs.Picks.{picks}
 use Rattle.tv_frontier.proofs.Picked.{picked-next, picked-last}
 use Rattle.tv_frontier.proofs.picks.picked_diagrams.Goals as goal

@@ -1,4 +1,4 @@
-use Rattle.std.proofs.Common.{◌≡◌, [], sym, ◌∙◌}
+use Rattle.std.proofs.Common.{[], sym, ◌∙◌}
 use Rattle.std.proofs.lemmas.List.{get_or_read}
 use Rattle.tv_laws_frontier.proofs.Listed.{choice_equality}
 use Rattle.tv_frontier.proofs.places.place_of.Goals as goal

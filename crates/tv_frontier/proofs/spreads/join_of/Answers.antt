@@ -1,7 +1,6 @@
-use Rattle.std.proofs.Common.{◌≡◌, refl, sym, ap, ◌∙◌, length, arith, w64, to_z, of_z}
-use Rattle.std.specs.Prelude.{ℤ, pos, ◌-ℤ◌, slice_index_or, unsigned_abs}
+use Rattle.std.proofs.Common.{◌≡◌, ◌∙◌, arith, w64, to_z, of_z}
+use Rattle.std.specs.Prelude.{◌-ℤ◌}
 use Rattle.std.proofs.lemmas.Int.{ints}
-use Rattle.tv_cells.specs.Extras.{empty_legs}
 use Rattle.tv_frontier.proofs.Spread.{new-long, new-few, corner-there, corner-legs-at, is-join}
 use Rattle.tv_frontier.proofs.spreads.join_of.Goals as goal
 
