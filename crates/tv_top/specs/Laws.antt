@@ -1,6 +1,7 @@
 -- What is true of accepted files, as laws.
 --
--- WordsHaveLimits           == sides from 1 to 7, degrees to 24 and orders from -64 to 64 are those that words may ask for
+-- WordsHaveLimits           == sides from 1 to 7, degrees to 24 and orders from -64 to 64 are those that words may ask for; a
+--                              file has at most 65,536 bytes, and a report that is checked 16,777,216
 -- AcceptedIsNotRefused      == bytes that are accepted have no fault: acceptance and refusal exclude each other
 -- AcceptedAsOneWeb          == bytes are accepted as one web at most
 -- GridIsAccepted            == the file of a grid is accepted, with the grid as its web
@@ -20,6 +21,8 @@ use Rattle.tv_spec_series.specs.Reduced.{full_coefficient}
 use Rattle.tv_laws_edges.specs.Rule.{HasEdgeRule}
 use Rattle.tv_spec_partial.specs.Partial.{partial_chi, partial_sign}
 use Rattle.tv_spec_reports.specs.Grids.{grid, grid_text}
+use Rattle.tv_spec_plane.specs.declared.limits.TheConstants.{MOST_BYTES}
+use Rattle.tv_report_reader.specs.declared.limits.TheConstants.{MOST_REPORT_BYTES}
 use Rattle.tv_top.specs.declared.command.TheConstants.{MIN_SIDE, MAX_SIDE, MAX_DEGREE, MIN_ORDER, MIN_INTEGERS_ORDER, MAX_ORDER}
 use Rattle.tv_top.specs.Commands.{IsSide}
 use Rattle.tv_top.specs.Acceptance.{IsAccepted}
@@ -32,6 +35,8 @@ pub record WordsHaveLimits : Type 0 where
   pub least_order : MIN_ORDER ≡ neg_ℤ (pos 64)
   pub least_integers_order : MIN_INTEGERS_ORDER ≡ pos 1
   pub greatest_order : MAX_ORDER ≡ pos 64
+  pub most_bytes : MOST_BYTES ≡ 65536
+  pub most_report_bytes : MOST_REPORT_BYTES ≡ 16777216
 
 abbrev pub AcceptedIsNotRefused : Type 0
 AcceptedIsNotRefused = (bytes : List ℕ) (w : Web) (f : FileFault) → IsAccepted bytes w → FaultOf bytes f → ⊥
