@@ -65,7 +65,7 @@ pub long_reply : (ws : List Word) (io : Change) (bytes : List ℕ) (r : Result A
 long_reply ws io bytes (Ok a) o t q taken kept long h =
     let more : MOST_REPORT_BYTES < length bytes = omega arith in
     rw t (subst (λ s. Deserves ws io s a.text.items) (sym h.0) (inr (record { bytes = bytes; fault = TooLong; asked = q; taken = taken; ended = inl long; kept = kept; refused = more; line = h.1 })))
-long_reply ws io bytes (Err e) o t q taken kept long h = rw t (subst (Fails ws io) (sym h) tt)
+long_reply ws io bytes (Err e) o t q taken kept long h = rw t (subst (Fails ws io) (sym h) kept)
 
 deserves : (ws : List Word) (io : Change) (bytes : List ℕ) (s : Status) (text : List ℕ) → Asks ws Verify → Gave io bytes → length bytes ≤ MOST_REPORT_BYTES → Checks bytes s text → Deserves ws io s text
 deserves ws io bytes Done text q g l h = inr (record { report = h.0; on = record { asked = q; bytes = bytes; gave = g; read = h.1 }; verdict = h.2 })
@@ -79,4 +79,4 @@ deserves ws io bytes WriteFault text q g l h = absurd h.2
 
 pub checked_reply : (ws : List Word) (io : Change) (bytes : List ℕ) (r : Result Answer Failure) (o : Result Outcome Failure) → o ≡ in_text r → Asks ws Verify → Gave io bytes → length bytes ≤ MOST_REPORT_BYTES → IsChecked bytes r → Replies ws io o
 checked_reply ws io bytes (Ok a) o t q g l h = rw t (deserves ws io bytes a.status a.text.items q g l h)
-checked_reply ws io bytes (Err e) o t q g l h = rw t (subst (Fails ws io) (sym h) tt)
+checked_reply ws io bytes (Err e) o t q g l h = rw t (subst (Fails ws io) (sym h) g.kept)

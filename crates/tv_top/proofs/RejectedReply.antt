@@ -31,15 +31,15 @@ use Rattle.tv_top.proofs.SameCommand.{same_command}
 use Rattle.tv_top.specs.declared.status.Status.{Status}
 use Rattle.tv_top.specs.declared.status.Status.TheVariants.{Done, Words, File, Wide, Differs, Memory as MemoryStatus, ReadFault, WriteFault}
 
-rejected_reply : (ws : List Word) (io : Change) (fault : FileFault) (r : Result Answer Failure) (o : Result Outcome Failure) → o ≡ in_text r → Says r File (fault_line fault)
+rejected_reply : (ws : List Word) (io : Change) (fault : FileFault) (r : Result Answer Failure) (o : Result Outcome Failure) → o ≡ in_text r → io.after.faults ≡ io.before.faults → Says r File (fault_line fault)
     → ((text : List ℕ) → text ≡ line_text (fault_line fault) → DeservesFile ws io text) → Replies ws io o
-rejected_reply ws io fault (Ok a) o t h f = rw t (subst (λ s. Deserves ws io s a.text.items) (sym h.0) (inl (f a.text.items h.1)))
-rejected_reply ws io fault (Err e) o t h f = rw t (subst (Fails ws io) (sym h) tt)
+rejected_reply ws io fault (Ok a) o t kept h f = rw t (subst (λ s. Deserves ws io s a.text.items) (sym h.0) (inl (f a.text.items h.1)))
+rejected_reply ws io fault (Err e) o t kept h f = rw t (subst (Fails ws io) (sym h) kept)
 
 -- the refusal of an input of which 65,537 bytes were taken
 pub too_long_reply : (ws : List Word) (io : Change) (c : Command) (bytes : List ℕ) (r : Result Answer Failure) (o : Result Outcome Failure) → o ≡ in_text r → Asks ws c → subject_of c ≡ OfFile → Consumes io.before.bytes io.after.bytes bytes → io.after.faults ≡ io.before.faults → length bytes ≡ MOST_BYTES + 1
     → Says r File (fault_line TooLong) → Replies ws io o
-too_long_reply ws io c bytes r o t q file taken kept long h = rejected_reply ws io TooLong r o t h (λ text line. record { command = c; bytes = bytes; fault = TooLong; asked = q; file = file; taken = taken; ended = inl long; kept = kept; refused = omega arith; line = line })
+too_long_reply ws io c bytes r o t q file taken kept long h = rejected_reply ws io TooLong r o t kept h (λ text line. record { command = c; bytes = bytes; fault = TooLong; asked = q; file = file; taken = taken; ended = inl long; kept = kept; refused = omega arith; line = line })
 
 -- a refusal of bytes
 pub judged_refusal : (c : Command) (bytes : List ℕ) (fault : FileFault) (r : Result Answer Failure) (o : Result Outcome Failure) → o ≡ in_text r → FaultOf bytes fault → Says r File (fault_line fault) → IsJudged c bytes o
@@ -92,7 +92,7 @@ deserves ws io c bytes File text q e g l h = inl (record { command = c; bytes = 
 deserves ws io c bytes Words text q e g l h = inr (record { command = c; web = h.0; place = h.2.0; on = record { asked = q; over = over_file (subject_of c) io bytes h.0 e g h.1 }; unsuited = h.2.1; line = h.2.2 })
 deserves ws io c bytes Differs text q e g l h = inl (record { command = c; web = h.0; refusal = h.2.0; on = record { asked = q; over = over_file (subject_of c) io bytes h.0 e g h.1 }; differs = h.2.1; line = h.2.2 })
 deserves ws io c bytes MemoryStatus text q e g l h = elim h.2 [
-  | inl line ↦ inl line
+  | inl line ↦ inl (record { kept = g.kept; line = line })
   | inr begun ↦ inr (record { command = c; web = h.0; pieces = begun.0; on = record { asked = q; over = over_file (subject_of c) io bytes h.0 e g h.1 }; begun = begun.1; broken_off = begun.2 })
 ]
 deserves ws io c bytes ReadFault text q e g l h = absurd h.2
@@ -100,7 +100,7 @@ deserves ws io c bytes WriteFault text q e g l h = absurd h.2
 
 pub judged_reply : (ws : List Word) (io : Change) (c : Command) (bytes : List ℕ) (r : Result Outcome Failure) → Asks ws c → subject_of c ≡ OfFile → Gave io bytes → length bytes ≤ MOST_BYTES → IsJudged c bytes r → Replies ws io r
 judged_reply ws io c bytes (Ok o) q e g l h = stands-onto (Judges c bytes) (Deserves ws io) (λ s text d. deserves ws io c bytes s text q e g l d) o h
-judged_reply ws io c bytes (Err e) q file g l h = subst (Fails ws io) (sym h) tt
+judged_reply ws io c bytes (Err e) q file g l h = subst (Fails ws io) (sym h) g.kept
 
 -- what a grid gives
 grid_deserves : (ws : List Word) (s : Seen) (c : Command) (k : ℕ) (status : Status) (text : List ℕ) → Asks ws c → subject_of c ≡ OfGrid k → CarriesOut c (grid k) status text → Deserves ws (record { before = s; after = s }) status text
@@ -110,7 +110,7 @@ grid_deserves ws s c k File text q e h = absurd h
 grid_deserves ws s c k Words text q e h = inr (record { command = c; web = grid k; place = h.0; on = record { asked = q; over = rw e (refl, refl) }; unsuited = h.1; line = h.2 })
 grid_deserves ws s c k Differs text q e h = inl (record { command = c; web = grid k; refusal = h.0; on = record { asked = q; over = rw e (refl, refl) }; differs = h.1; line = h.2 })
 grid_deserves ws s c k MemoryStatus text q e h = elim h [
-  | inl line ↦ inl line
+  | inl line ↦ inl (record { kept = refl; line = line })
   | inr begun ↦ inr (record { command = c; web = grid k; pieces = begun.0; on = record { asked = q; over = rw e (refl, refl) }; begun = begun.1; broken_off = begun.2 })
 ]
 grid_deserves ws s c k ReadFault text q e h = absurd h
@@ -118,7 +118,7 @@ grid_deserves ws s c k WriteFault text q e h = absurd h
 
 pub grid_reply : (ws : List Word) (s : Seen) (c : Command) (k : ℕ) (r : Result Answer Failure) (o : Result Outcome Failure) → o ≡ in_text r → Asks ws c → subject_of c ≡ OfGrid k → IsCarriedOut c (grid k) r → Replies ws (record { before = s; after = s }) o
 grid_reply ws s c k (Ok a) o t q e h = rw t (grid_deserves ws s c k a.status a.text.items q e h)
-grid_reply ws s c k (Err f) o t q e h = rw t (subst (Fails ws (record { before = s; after = s })) (sym h) tt)
+grid_reply ws s c k (Err f) o t q e h = rw t (subst (Fails ws (record { before = s; after = s })) (sym h) refl)
 
 -- what was taken for a command
 other_side : (subject : Subject) (k : ℕ) → IsRead subject → subject ≡ OfGrid k → ⊥

@@ -16,6 +16,7 @@
 -- DeservesDiffers ws io text == the text names the first place at which the product over the integers of the reduced series of
 --                             that web and these series differ, with both values
 -- DeservesRead ws io text  == the command is about a file or a report, one read failed, and the text is that of a failed read
+-- DeservesMemory io text   == no read failed, and the text is that of want of memory
 -- DeservesBegun ws io text == the command tells its report on that web piece by piece, and the text is that of the first whole
 --                             pieces, followed by that of want of memory
 -- Deserves ws io status text == the status and its text are deserved by these words and this source
@@ -26,8 +27,8 @@
 --                             Nothing was read where the words are refused, or where the command is about a grid
 -- Answers ws io out result == some status and text are deserved, and were told. A source or a sink that doesn't tell its bytes
 --                             is seen as None, of which every statement on bytes holds; a run can't tell it from one that
---                             does. Want of memory is deserved always; where the report is told piece by piece, it may come
---                             in place of each piece
+--                             does. Want of memory is deserved wherever no read failed; where the report is told piece by
+--                             piece, it may come in place of each piece
 use Rattle.std.specs.Prelude.{◌≡◌, ℕ, ◌+◌, ◌≤◌, ◌⊎◌, pos, List, [], ◌∷◌, ◌++◌, length, take, codes, ⊤}
 use Rattle.std.specs.Io.KnownBytes.{Appends, Consumes, IsAtEnd}
 use Rattle.tv_spec_plane.specs.Web.{Web}
@@ -132,6 +133,10 @@ pub record DeservesRead (ws : List Word) (io : Change) (text : List ℕ) : Type 
   pub rose : RoseOnce io.before.faults io.after.faults
   pub line : text ≡ read_text
 
+pub record DeservesMemory (io : Change) (text : List ℕ) : Type 0 where
+  pub kept : io.after.faults ≡ io.before.faults
+  pub line : text ≡ memory_text
+
 pub record DeservesBegun (ws : List Word) (io : Change) (text : List ℕ) : Type 0 where
   pub command : Command
   pub web : Web
@@ -146,7 +151,7 @@ Deserves ws io Words text = DeservesWords ws io text ⊎ DeservesClass ws io tex
 Deserves ws io File text = DeservesFile ws io text ⊎ DeservesReportFault ws io text
 Deserves ws io Wide text = DeservesWide ws io text ⊎ DeservesVerdict ws io Wide text
 Deserves ws io Differs text = DeservesDiffers ws io text ⊎ DeservesVerdict ws io Differs text
-Deserves ws io Memory text = (text ≡ memory_text) ⊎ DeservesBegun ws io text
+Deserves ws io Memory text = DeservesMemory io text ⊎ DeservesBegun ws io text
 Deserves ws io ReadFault text = DeservesRead ws io text
 Deserves ws io _ text = ⊥
 

@@ -21,9 +21,9 @@
 -- HasVerdict q r              == the answer is a verdict on the report q; a failure is want of memory
 -- Checks bytes status text    == the status and the text are a verdict on a report that the bytes spell, or say why they are none
 -- IsChecked bytes r           == the answer is so; a failure is want of memory
--- Fails ws io f               == the failure is one of reading that is deserved, or want of memory
+-- Fails ws io f               == the failure is one of reading that is deserved; or want of memory, and no read failed
 -- Replies ws io r             == the outcome is deserved; a failure is as above
-use Rattle.std.specs.Prelude.{◌≡◌, ◌⊎◌, ℤ, List, ◌++◌, ℕ, Result, Ok, Err, MatchResult, ⊤}
+use Rattle.std.specs.Prelude.{◌≡◌, ◌⊎◌, ℤ, List, ◌++◌, ℕ, Result, Ok, Err, MatchResult}
 use Rattle.std.specs.List.{AllByRecursion}
 use Rattle.tv_ring.specs.Whole.{wholes, IsAny}
 use Rattle.tv_spec_plane.specs.Web.{Web}
@@ -138,7 +138,7 @@ abbrev pub IsChecked : List ℕ → Result Answer Failure → Type 0
 IsChecked bytes r = MatchResult r (λ a. Checks bytes a.status a.text.items) (λ e. e ≡ Memory)
 
 abbrev pub Fails : List Word → Change → Failure → Type 0
-Fails ws io Memory = ⊤
+Fails ws io Memory = io.after.faults ≡ io.before.faults
 Fails ws io Read = DeservesRead ws io read_text
 
 abbrev pub Replies : List Word → Change → Result Outcome Failure → Type 0
