@@ -1,0 +1,5 @@
+mod Plain
+mod Printed
+mod Firsts
+mod Told
+mod Fitting
