@@ -27,7 +27,7 @@ use Rattle.tv_laws_reports.proofs.Printed.{sections_read_back}
 use Rattle.tv_laws_reports.proofs.Firsts.{IsFirst, there, first_of, only_unit}
 use Rattle.tv_laws_reports.proofs.Told.{none_told, told_other, told_rise}
 
-class_within : (w : Web) (D : ℕ) (v : List ℤ) → IsGraded w → IsClass w D v → degree_of w.heights v ≤ℤ pos D
+pub class_within : (w : Web) (D : ℕ) (v : List ℤ) → IsGraded w → IsClass w D v → degree_of w.heights v ≤ℤ pos D
 unfolding assignments
 class_within w D v graded is =
     let gs = weights w (compact w) in

@@ -3,3 +3,4 @@ mod Printed
 mod Firsts
 mod Told
 mod Fitting
+mod Short

@@ -17,7 +17,7 @@ use Rattle.tv_spec_reports.specs.IntegersReport.{genus_value, integers_of}
 use Rattle.tv_spec_reports.specs.Grammar.{GeneraRise}
 
 -- what each integer of the class gives holds of those that are told
-told_all : (v : List ℤ) (P : GenusValue → Type 0) (Q : Integer → Type 0) → ((i : Integer) → Q i → i.class ≡ v → P (genus_value i))
+pub told_all : (v : List ℤ) (P : GenusValue → Type 0) (Q : Integer → Type 0) → ((i : Integer) → Q i → i.class ≡ v → P (genus_value i))
     → (is : List Integer) → AllByRecursion Q is → AllByRecursion P (integers_of v is)
 told_all v P Q step [] all = tt
 told_all v P Q step (i ∷ is) all = bool_cases (same_vector i.class v && not (int_eq i.value (pos 0)))
