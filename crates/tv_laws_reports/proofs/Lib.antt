@@ -1,0 +1,6 @@
+mod Plain
+mod Printed
+mod Firsts
+mod Told
+mod Fitting
+mod Short
