@@ -41,10 +41,15 @@ pub first_of : (hs zero : List ℤ) (vs : List (List ℤ)) → degree_of hs zero
     → AllByRecursion (λ v. (v ≡ zero) ⊎ IsPositiveClass hs v) vs → IsFirst hs zero vs
 first_of hs zero [] none has rises all = let no = has.1 in omega arith
 first_of hs zero (v ∷ vs) none has rises all = elim all.0 as (λ _. IsFirst hs zero (v ∷ vs)) [
-  | inl same ↦ (same, all-both (IsBefore hs v) (λ u. (u ≡ zero) ⊎ IsPositiveClass hs u) (IsPositiveClass hs) (later same) vs (first_before hs v vs rises) all.1)
+  | inl same ↦ (
+    same,
+    all-both (IsBefore hs v) (λ u. (u ≡ zero) ⊎ IsPositiveClass hs u) (IsPositiveClass hs) (later same) vs
+        (first_before hs v vs rises) all.1,
+  )
   | inr positive ↦ elim (contains-cases zero v vs has) as (λ _. IsFirst hs zero (v ∷ vs)) [
     | inl same ↦ let degree = ap (degree_of hs) same in let up = positive.degree in absurd (omega (arith, ints))
-    | inr behind ↦ absurd (not_before_zero hs zero v none positive.degree (all-contains (IsBefore hs v) vs zero (first_before hs v vs rises) behind))
+    | inr behind ↦ absurd (not_before_zero hs zero v none positive.degree
+        (all-contains (IsBefore hs v) vs zero (first_before hs v vs rises) behind))
   ]
 ]
   where
@@ -69,7 +74,8 @@ module _ (f : ℤ → ℤ) (N : ℤ) (up : pos 0 ≤ℤ N) (unit : f (pos 0) ≡
       ap (λ n. term n t.coefficient) (at_zero t is) ∙ ap (λ x. term (pos 0) x) (is.value ∙ (ap f (at_zero t is) ∙ unit))
 
   pub only_unit : (ts : List Term) → AreTerms f N ts → ts ≡ record { exponent = pos 0; coefficient = pos 1 } ∷ []
-  only_unit [] are = let has = are.whole (pos 0) up (λ e. let clash = sym unit ∙ e in absurd (cc)) in let no = has.1 in absurd (omega arith)
+  only_unit [] are =
+      let has = are.whole (pos 0) up (λ e. let clash = sym unit ∙ e in absurd (cc)) in let no = has.1 in absurd (omega arith)
   only_unit (t ∷ []) are = ap (λ (x : Term). x ∷ []) (is_unit t are.each.0)
   only_unit (t ∷ u ∷ ts) are =
       let first = at_zero t are.each.0 in

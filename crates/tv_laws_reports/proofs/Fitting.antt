@@ -33,7 +33,8 @@ class_within w D v graded is =
     let gs = weights w (compact w) in
     let choice : IsChoice gs D is.witness = all-contains (IsChoice gs D) _ is.witness (choices_are gs D) is.listed in
     let few = choice.within in
-    let degree : degree_of w.heights v ≡ pos (degree_by gs is.witness) = ap (degree_of w.heights) (sym is.same) ∙ class_of-degree w graded is.witness in
+    let degree : degree_of w.heights v ≡ pos (degree_by gs is.witness) =
+    ap (degree_of w.heights) (sym is.same) ∙ class_of-degree w graded is.witness in
     omega (arith, ints)
 
 module _ (D : ℕ) (f : Family ℤ) (is : List Integer) (up : pos 0 ≤ℤ f.upto) (normal : IsNormalized f.upto f) (are : AreIntegers D f is) where
@@ -46,7 +47,8 @@ module _ (D : ℕ) (f : Family ℤ) (is : List Integer) (up : pos 0 ≤ℤ f.upt
       record {
         degree = tells.degree ∙ none;
         entries = same;
-        terms = only_unit (coefficient_of wholes f (zeros (length f.heights))) f.upto up normal.unit normal.none s.section.terms (rw same at tells.terms);
+        terms = only_unit (coefficient_of wholes f (zeros (length f.heights))) f.upto up normal.unit normal.none s.section.terms
+            (rw same at tells.terms);
         integers = tells.integers ∙ none_told D f.heights s.section.entries none is (each_integer D f.heights is are.ordered);
       }
 
@@ -55,15 +57,18 @@ module _ (D : ℕ) (f : Family ℤ) (is : List Integer) (up : pos 0 ≤ℤ f.upt
       let g = coefficient_of wholes f s.section.entries in
       all-both (λ t. IsTerm g f.upto t × IsSmallTerm t) (λ t. IsNumber t.exponent) (GvTermFits f.upto)
       (λ t h k. record { exponent = k; within = h.0.within; coefficient = record { other = h.0.nonzero; within = h.1 } }) s.section.terms
-      (all-both (IsTerm g f.upto) IsSmallTerm (λ t. IsTerm g f.upto t × IsSmallTerm t) (λ t h k. (h, k)) s.section.terms tells.terms.each tells.small.terms)
+      (all-both (IsTerm g f.upto) IsSmallTerm (λ t. IsTerm g f.upto t × IsSmallTerm t) (λ t h k. (h, k)) s.section.terms
+      tells.terms.each tells.small.terms)
       short.exponents
 
   integers_fit : (s : GvSection) → TellsClass f is s → HasShortNumbers s → AllByRecursion IntegerFits s.integers
   integers_fit s tells short =
-      let others : AllByRecursion (λ j. j.value ≢ pos 0) s.integers = rw tells.integers (told_other D f.heights s.section.entries is (each_integer D f.heights is are.ordered)) in
+      let others : AllByRecursion (λ j. j.value ≢ pos 0) s.integers =
+      rw tells.integers (told_other D f.heights s.section.entries is (each_integer D f.heights is are.ordered)) in
       all-both (λ j. (j.value ≢ pos 0) × IsSmallInteger j) (λ j. IsCount j.genus) IntegerFits
       (λ j h k. record { genus = k; value = record { other = h.0; within = h.1.value } }) s.integers
-      (all-both (λ j. j.value ≢ pos 0) IsSmallInteger (λ j. (j.value ≢ pos 0) × IsSmallInteger j) (λ j h k. (h, k)) s.integers others tells.small.integers)
+      (all-both (λ j. j.value ≢ pos 0) IsSmallInteger (λ j. (j.value ≢ pos 0) × IsSmallInteger j) (λ j h k. (h, k)) s.integers
+      others tells.small.integers)
       short.genera
 
   later_fits : (ss : List GvSection) (s : GvSection) → IsPositiveClass f.heights s.section.entries → degree_of f.heights s.section.entries ≤ℤ pos D
@@ -111,15 +116,15 @@ module _ (D : ℕ) (f : Family ℤ) (is : List Integer) (up : pos 0 ≤ℤ f.upt
       → AllByRecursion (λ v. degree_of f.heights v ≤ℤ pos D) (classes f.rows) → AllByRecursion (TellsClass f is) ss
       → HasReportSizes D f.upto f.heights ss → GvFits (report_data D f.upto f.heights ss)
   report_fits ss same rises within tells sizes =
-      let few = sizes.degree in
+      let few = sizes.asked.degree in
       record {
         some = sizes.some;
         few = sizes.few;
         heights = sizes.heights;
         least_degree = omega (arith, ints);
         greatest_degree = omega (arith, ints);
-        least_order = sizes.least_order;
-        greatest_order = sizes.greatest_order;
+        least_order = sizes.asked.least;
+        greatest_order = sizes.asked.greatest;
         sections = sections_fit ss ss (rw same (is_first rises)) (rw same within) tells sizes.numbers;
         order = rw same rises;
       }
@@ -129,15 +134,20 @@ reports_read_back w D N text graded each r sizes =
     let f = r.family in
     let ss = r.tells.sections in
     let reduced = r.reduced in
-    let up : pos 0 ≤ℤ N = let least = sizes.least_order in omega (arith, ints) in
+    let up : pos 0 ≤ℤ N = let least = sizes.asked.least in omega (arith, ints) in
     let normal : IsNormalized N f = reduced_normalized w D N f graded each up reduced in
     let within : AllByRecursion (λ v. degree_of w.heights v ≤ℤ pos D) (classes f.rows) =
-    all-onto (IsClass w D) (λ v. degree_of w.heights v ≤ℤ pos D) (λ v class. class_within w D v graded class) (classes f.rows) reduced.classes.each in
-    let fits : GvFits (report_data D f.upto f.heights ss) = report_fits D f r.integers (rw reduced.upto up) (subst (λ (n : ℤ). IsNormalized n f) (sym reduced.upto) normal) r.are ss r.tells.classes
-    (subst (λ (hs : List ℤ). ClassesRise hs (classes f.rows)) (sym reduced.heights) reduced.classes.rises)
-    (subst (λ (hs : List ℤ). AllByRecursion (λ v. degree_of hs v ≤ℤ pos D) (classes f.rows)) (sym reduced.heights) within) r.tells.each (subst (λ (n : ℤ). HasReportSizes D n f.heights ss) (sym reduced.upto)
-    (subst (λ (hs : List ℤ). HasReportSizes D N hs ss) (sym reduced.heights) sizes)) in
-    let reads : ReadsAs (word_lines (gv_text f.heights (pos D) f.upto ss)) (report_data D f.upto f.heights ss) = sections_read_back (report_data D f.upto f.heights ss) fits in
+    all-onto (IsClass w D) (λ v. degree_of w.heights v ≤ℤ pos D) (λ v class. class_within w D v graded class) (classes f.rows)
+    reduced.classes.each in
+    let normal_here = subst (λ (n : ℤ). IsNormalized n f) (sym reduced.upto) normal in
+    let rises = subst (λ (hs : List ℤ). ClassesRise hs (classes f.rows)) (sym reduced.heights) reduced.classes.rises in
+    let within_here = subst (λ (hs : List ℤ). AllByRecursion (λ v. degree_of hs v ≤ℤ pos D) (classes f.rows)) (sym reduced.heights) within in
+    let sizes_here = subst (λ (n : ℤ). HasReportSizes D n f.heights ss) (sym reduced.upto)
+    (subst (λ (hs : List ℤ). HasReportSizes D N hs ss) (sym reduced.heights) sizes) in
+    let fits : GvFits (report_data D f.upto f.heights ss) =
+    report_fits D f r.integers (rw reduced.upto up) normal_here r.are ss r.tells.classes rises within_here r.tells.each sizes_here in
+    let reads : ReadsAs (word_lines (gv_text f.heights (pos D) f.upto ss)) (report_data D f.upto f.heights ss) =
+    sections_read_back (report_data D f.upto f.heights ss) fits in
     let printed : ReadsAs (word_lines text) (report_data D f.upto f.heights ss) =
     subst (λ (t : List ℕ). ReadsAs (word_lines t) (report_data D f.upto f.heights ss)) (sym r.tells.printed) reads in
     subst (λ (hs : List ℤ). ReadsAs (word_lines text) (report_data D N hs ss)) reduced.heights

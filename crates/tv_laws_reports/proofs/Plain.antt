@@ -72,7 +72,8 @@ strip-above (b ∷ bs) above =
     let other : (slice_index (b ∷ bs) (length (b ∷ bs) - 1) == 13) ≡ false = grind (arith, nat_tests) in
     rw other refl
 
-parts-step : (part : List ℕ) (more : List (List ℕ)) → 0 < length more → lines_of_parts (part ∷ more) ≡ strip_carriage_return part ∷ lines_of_parts more
+parts-step : (part : List ℕ) (more : List (List ℕ)) → 0 < length more
+    → lines_of_parts (part ∷ more) ≡ strip_carriage_return part ∷ lines_of_parts more
 parts-step part [] h = absurd (omega arith)
 parts-step part (y ∷ more) h = refl
 

@@ -28,9 +28,11 @@ section-plain : (s : GvSection) → IsNumber s.section.degree → AllByRecursion
     → AllByRecursion TermFits s.section.terms → AllByRecursion IntegerFits s.integers → AllByRecursion IsPlain (gv_section_lines s)
 section-plain s degree entries terms integers =
     let term = all-map TermFits IsPlain term_line
-    (λ t h. (word-above (codes "term") refl, (number-above t.exponent h.0, (spelled-above t.coefficient h.1.within, tt)))) s.section.terms terms in
+    (λ t h. (word-above (codes "term") refl, (number-above t.exponent h.0, (spelled-above t.coefficient h.1.within, tt))))
+    s.section.terms terms in
     let integer = all-map IntegerFits IsPlain integer_line
-    (λ i h. (word-above (codes "integer") refl, (number-above (pos i.genus) h.genus, (spelled-above i.value h.value.within, tt)))) s.integers integers in (
+    (λ i h. (word-above (codes "integer") refl, (number-above (pos i.genus) h.genus, (spelled-above i.value h.value.within, tt))))
+    s.integers integers in (
       (word-above (codes "class") refl, (number-above s.section.degree degree, numbers-above s.section.entries entries)),
       all-append IsPlain (map term_line s.section.terms) (map integer_line s.integers) term integer,
     )

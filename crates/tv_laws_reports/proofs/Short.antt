@@ -20,7 +20,10 @@ use Rattle.tv_spec_series.specs.ReducedFamilies.{IsReducedFamily, IsReducedRow}
 use Rattle.tv_spec_series.proofs.Rows.{found_all}
 use Rattle.tv_spec_katz.specs.Katz.{Integer}
 use Rattle.tv_spec_katz.specs.Relations.{IsInteger, AreIntegers}
-use Rattle.tv_spec_text.specs.Lines.{IsNumber, IsCount}
+use Rattle.tv_lattice.specs.declared.fault.ReportFault.TheVariants.{TooLong, Line as AtLine}
+use Rattle.tv_spec_text.specs.Lines.{IsNumber, IsCount, word_lines}
+use Rattle.tv_spec_text.proofs.Places.{IsPlace-none}
+use Rattle.tv_spec_reports.specs.Grammar.{IsGv}
 use Rattle.tv_spec_text.specs.Reports.{Term, IsTerm}
 use Rattle.tv_spec_reports.specs.IntegerLines.{GvSection}
 use Rattle.tv_spec_reports.specs.IntegersReport.{TellsClass}
@@ -32,7 +35,7 @@ use Rattle.tv_laws_integers.proofs.Existence.{each_integer}
 use Rattle.tv_laws_integers.proofs.Slopes.{integers_within}
 use Rattle.tv_laws_katz.specs.Weights.{IsWithinSlope}
 use Rattle.tv_report_reader.proofs.Spelled.{small_number}
-use Rattle.tv_laws_reports.specs.Laws.{IsReportable, HasShortNumbers, HasReportSizes, AllReportsReadBack}
+use Rattle.tv_laws_reports.specs.Laws.{IsReportable, HasShortNumbers, HasReportSizes, AllReportsReadBack, OnlyLengthIsRefused, report_data}
 use Rattle.tv_laws_reports.proofs.Fitting.{class_within, reports_read_back}
 use Rattle.tv_laws_reports.proofs.Told.{told_all}
 
@@ -50,7 +53,7 @@ least-of x y h k = grind (arith, ints)
 
 module _ (w : Web) (D : ℕ) (N : ℤ) (f : Family ℤ) (limits : IsReportable w D N) (reduced : IsReducedFamily wholes w (no_legs w) D N f) where
   low : negsuc 9999999 ≤ℤ lowest w (no_legs w) D
-  low = lowest-bound w D limits.within.coordinates limits.rule limits.graded limits.within.triangles limits.degree
+  low = lowest-bound w D limits.within.coordinates limits.rule limits.graded limits.within.triangles limits.asked.degree
 
   -- ---- entries
 
@@ -58,7 +61,7 @@ module _ (w : Web) (D : ℕ) (N : ℤ) (f : Family ℤ) (limits : IsReportable w
   entries_short =
       let found : HasReducedClasses wholes w 402 N f =
       reduced_classes whole_laws w 402 D N f limits.graded (edges_small w limits.within.coordinates limits.rule) reduced in
-      let top = limits.degree in
+      let top = limits.asked.degree in
       all-both (IsClass w D) (λ v. AllByRecursion (λ x. pos (unsigned_abs x) ≤ℤ (pos 402 *ℤ degree_of w.heights v)) v) (AllByRecursion IsNumber)
       (λ v class all.
       let within = class_within w D v limits.graded class in
@@ -70,7 +73,7 @@ module _ (w : Web) (D : ℕ) (N : ℤ) (f : Family ℤ) (limits : IsReportable w
   row_low : (x : Row ℤ) → IsReducedRow wholes w (no_legs w) D N x → negsuc 9999999 ≤ℤ x.series.low
   row_low x row =
       let from = row.low in
-      let order = limits.least_order in
+      let order = limits.asked.least in
       let least = least-of (lowest w (no_legs w) D) (N +ℤ pos 1) low (omega (arith, ints)) in omega (arith, ints)
 
   none_below : (v : List ℤ) (m : ℤ) → m <ℤ negsuc 9999999 → coefficient_of wholes f v m ≡ pos 0
@@ -88,7 +91,7 @@ module _ (w : Web) (D : ℕ) (N : ℤ) (f : Family ℤ) (limits : IsReportable w
       (λ above.
       let last = is.within in
       let same = reduced.upto in
-      let order = limits.greatest_order in number-between t.exponent above (omega (arith, ints)))
+      let order = limits.asked.greatest in number-between t.exponent above (omega (arith, ints)))
 
   -- ---- genera
 
@@ -97,7 +100,7 @@ module _ (w : Web) (D : ℕ) (N : ℤ) (f : Family ℤ) (limits : IsReportable w
 
   genera_short : (is : List Integer) → AreIntegers D f is → AllByRecursion (λ i. IsCount i.genus) is
   genera_short is are =
-      let top = limits.degree in
+      let top = limits.asked.degree in
       all-both (IsWithinSlope f.heights 10000000) (IsInteger D f.heights) (λ i. IsCount i.genus)
       (λ i steep integer. let slope = steep.slope in let within = integer.within in omega (arith, ints)) is
       (integers_within D f 10000000 begins is are) (each_integer D f.heights is are.ordered)
@@ -130,12 +133,16 @@ module _ (w : Web) (D : ℕ) (N : ℤ) (f : Family ℤ) (limits : IsReportable w
         some = omega arith;
         few = omega arith;
         heights = limits.within.sizes;
-        degree = limits.degree;
-        least_order = limits.least_order;
-        greatest_order = limits.greatest_order;
+        asked = limits.asked;
         numbers = sections_short is are ss (rw same entries_short) tells;
       }
 
 pub all_reports_read_back : AllReportsReadBack
 all_reports_read_back w D N text limits r = reports_read_back w D N text limits.graded limits.heights r
     (has_sizes w D N r.family limits r.reduced r.integers r.are r.tells.sections r.tells.classes r.tells.each)
+
+pub only_length_refused : OnlyLengthIsRefused
+only_length_refused w D N text limits r TooLong fault = refl
+only_length_refused w D N text limits r (AtLine n) fault =
+    let reads = all_reports_read_back w D N text limits r in
+    absurd (IsPlace-none IsGv (word_lines text) fault.1.0 (report_data D N w.heights r.tells.sections, reads.spells) fault.1.2)

@@ -21,7 +21,10 @@ pub told_all : (v : List ℤ) (P : GenusValue → Type 0) (Q : Integer → Type 
     → (is : List Integer) → AllByRecursion Q is → AllByRecursion P (integers_of v is)
 told_all v P Q step [] all = tt
 told_all v P Q step (i ∷ is) all = bool_cases (same_vector i.class v && not (int_eq i.value (pos 0)))
-    (λ b. rw b (step i all.0 (same_vector_tells i.class v (and_parts (same_vector i.class v) (not (int_eq i.value (pos 0))) b).0), told_all v P Q step is all.1))
+    (λ b. rw b (
+      step i all.0 (same_vector_tells i.class v (and_parts (same_vector i.class v) (not (int_eq i.value (pos 0))) b).0),
+      told_all v P Q step is all.1,
+    ))
     (λ b. rw b (told_all v P Q step is all.1))
 
 nothing : (js : List GenusValue) → AllByRecursion (λ j. ⊥) js → js ≡ []

@@ -1,7 +1,7 @@
 //! Laws of printed reports of integers: each function does nothing, and its contract is a law. The grammar is that in which
 //! `verify` reads.
 
-ghost use Rattle.tv_laws_reports.specs.Laws.{SectionsReadBack, ReportsReadBack, AllReportsReadBack};
+ghost use Rattle.tv_laws_reports.specs.Laws.{SectionsReadBack, ReportsReadBack, AllReportsReadBack, OnlyLengthIsRefused};
 
 /// The text of every report that fits the grammar reads back as that report, and as no other.
 pub fn sections_read_back()
@@ -20,4 +20,9 @@ pub fn reports_read_back()
 /// never has more digits.
 pub fn all_reports_read_back()
     ensures { AllReportsReadBack }
+{}
+
+/// The only fault that the reader can find with such a text is that it is longer than a report may be.
+pub fn only_length_is_refused()
+    ensures { OnlyLengthIsRefused }
 {}
