@@ -54,7 +54,7 @@ module _ {A : Type 0} {IsValue : A → Type 0} {r : Operations A} (laws : RingLa
       let x = size-times laws sizes (f i) in let y = size-times laws sizes (g (k - i)) in
       rw (size_term_is r F G k i, ef i h, eg (k - i) (omega arith), split_is f g k i) (term-small (r.size (times r (f i))) (r.size (times r (g (k - i)))) (f i) (g (k - i)) (r.size r.unit) x y sizes.size-unit)
 
-  size_convolution-multiples : (F G : ℕ → A) (f g : ℕ → ℕ) (k : ℕ) → ((j : ℕ) → j ≤ k → F j ≡ times r (f j)) → ((j : ℕ) → j ≤ k → G j ≡ times r (g j)) → size_convolution r F G k ≤ convolved f g k * r.size r.unit
+  pub size_convolution-multiples : (F G : ℕ → A) (f g : ℕ → ℕ) (k : ℕ) → ((j : ℕ) → j ≤ k → F j ≡ times r (f j)) → ((j : ℕ) → j ≤ k → G j ≡ times r (g j)) → size_convolution r F G k ≤ convolved f g k * r.size r.unit
   size_convolution-multiples F G f g k ef eg =
       rw (size_convolution_is r F G k, convolved_is f g k, ← total_below-times (split f g k) (r.size r.unit) (suc k))
       (total_below-≤ (size_term r F G k) (λ i. split f g k i * r.size r.unit) (suc k) (λ i h. size-multiples F G f g k i (omega arith) ef eg))

@@ -1,9 +1,9 @@
 pub mod Coefficients
-mod Faults
+pub mod Faults
 mod Inserted
-mod Keeping
+pub mod Keeping
 mod Asking
 mod Prepared
-mod Fronts
+pub mod Fronts
 mod WithSigns
 mod Assembled

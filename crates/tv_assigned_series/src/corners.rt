@@ -48,7 +48,7 @@ impl<C: Ring> Corners<C> {
 
     /// The place of the series of the corner with these legs, known through `k` at least. It is that of their least image, and
     /// is computed where it is not kept or known less far. On an error what is kept stays as it was.
-    pub(crate) fn place_of(
+    pub fn place_of(
         &mut self,
         alloc: Global,
         legs: &Legs,
@@ -94,7 +94,7 @@ impl<C: Ring> Corners<C> {
     }
 
     /// The series at that place.
-    pub(crate) fn at(&self, place: usize) -> &Series<C>
+    pub fn at(&self, place: usize) -> &Series<C>
         requires { place < length self.now }
         ensures { slice_get (values_of self.now) place ≡ Some result.now }
     {

@@ -20,7 +20,7 @@ cells-by : (n g k m : ℕ) → 0 < g → k ≤ m → n + k ≤ n * g + m
 cells-by n zero k m h l = absurd (omega arith)
 cells-by n (suc g) k m h l = omega arith
 
-cells-few : (gs : List ℕ) (a : Assignment) → AllByRecursion (λ g. 0 < g) gs → length a ≡ length gs → cells_of a ≤ degree_by gs a
+pub cells-few : (gs : List ℕ) (a : Assignment) → AllByRecursion (λ g. 0 < g) gs → length a ≡ length gs → cells_of a ≤ degree_by gs a
 cells-few [] [] positive e = omega arith
 cells-few [] (rows ∷ a) positive e = absurd (omega arith)
 cells-few (g ∷ gs) [] positive e = absurd (omega arith)

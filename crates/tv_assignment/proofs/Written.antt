@@ -99,6 +99,9 @@ pub size_read : (sizes : List ℕ) (k x : ℕ) → k < length sizes → x ≡ ge
 size_read sizes k x h read are = get_or_read sizes k x h read 0 ∙ are k h
 
 -- at the very start
-pub written-all : (w : Web) (d : ℕ) (all start : List Assignment) (front : List Rows) (degrees : List ℕ) → start ≡ [] → front ≡ [] → degrees ≡ degrees_of w → all ≡ start ++ behind front (choices degrees d) → all ≡ assignments w d
+pub written-all : (d : ℕ) (all start : List Assignment) (front : List Rows) (degrees : List ℕ) → start ≡ [] → front ≡ [] → all ≡ start ++ behind front (choices degrees d) → all ≡ choices degrees d
+written-all d all start front degrees es ef written = written ∙ rw (es, ef) (behind-nothing (choices degrees d))
+
+pub all-assignments : (w : Web) (d : ℕ) (all : List Assignment) (degrees : List ℕ) → degrees ≡ degrees_of w → all ≡ choices degrees d → all ≡ assignments w d
 unfolding assignments
-written-all w d all start front degrees es ef ed written = written ∙ rw (es, ef, ed) (behind-nothing (choices (degrees_of w) d))
+all-assignments w d all degrees ed is = is ∙ ap (λ gs. choices gs d) ed

@@ -5,7 +5,8 @@ ghost use Rattle.tv_spec_plane.specs.Web.{compact, normal_a, normal_b};
 ghost use Rattle.tv_partition.specs.Rows.{size};
 ghost use Rattle.tv_cells.specs.Costs.{edge_cost, overlap_cost};
 ghost use Rattle.tv_degrees.specs.Edges.{edge_at};
-ghost use Rattle.tv_spec_boxes.specs.Assignments.{edge_costs, overlaps_of};
+ghost use Rattle.tv_spec_boxes.specs.Assignments.{sum_on, edge_costs, overlaps_of};
+ghost use Rattle.tv_spec_boxes.specs.Numbers.{fall_by};
 ghost use Rattle.tv_assignment.specs.Size.{cells_of};
 
 use crate::assignment::Assignment;
@@ -26,7 +27,41 @@ pub fn start_of(web: &GradedWeb, assignment: &Assignment, legs: &[Legs]) -> i64
     edge_costs(web, assignment) - overlap_costs(legs)
 }
 
-fn edge_costs(web: &GradedWeb, assignment: &Assignment) -> i64
+/// How low it may fall while corners are taken one after the other: only the edge costs below 0 are counted.
+pub fn low_of(web: &GradedWeb, assignment: &Assignment, legs: &[Legs]) -> i64
+    requires one_each { length assignment.now ≡ length (compact web.now) }
+    requires few { cells_of assignment.now ≤ MOST_CELLS }
+    requires corners { length legs.now ≤ MOST_TRIANGLES }
+    ensures value { result ≡ sum_on (fall_by web.now) (compact web.now) assignment.now -ℤ pos (overlaps_of legs.now) }
+    ensures bound { unsigned_abs result ≤ 10000000 }
+{
+    falls(web, assignment) - overlap_costs(legs)
+}
+
+fn falls(web: &GradedWeb, assignment: &Assignment) -> i64
+    requires one_each { length assignment.now ≡ length (compact web.now) }
+    requires few { cells_of assignment.now ≤ MOST_CELLS }
+    ensures value { result ≡ sum_on (fall_by web.now) (compact web.now) assignment.now }
+    ensures bound { unsigned_abs result ≤ MOST_CELLS * 48001 }
+{
+    let mut total = 0;
+    let diagrams = assignment.diagrams();
+    for e in 0..web.compact().len() as u32 {
+        total += fall(web, e, &diagrams[e as usize]);
+    }
+    total
+}
+
+fn fall(web: &GradedWeb, e: u32, diagram: &Diagram) -> i64
+    requires { e < length (compact web.now) }
+    ensures value { result ≡ fall_by web.now (edge_at web.now e) diagram.now }
+    ensures bound { unsigned_abs result ≤ size diagram.now * 48001 }
+{
+    0.min(edge_cost(web, e, diagram))
+}
+
+/// The costs of all edges.
+pub fn edge_costs(web: &GradedWeb, assignment: &Assignment) -> i64
     requires one_each { length assignment.now ≡ length (compact web.now) }
     requires few { cells_of assignment.now ≤ MOST_CELLS }
     ensures value { result ≡ edge_costs web.now assignment.now }
@@ -62,7 +97,8 @@ fn overlap_costs(legs: &[Legs]) -> i64
     total
 }
 
-fn overlap_cost(legs: &Legs) -> i64
+/// What one corner takes away.
+pub fn overlap_cost(legs: &Legs) -> i64
     ensures value { result ≡ pos (overlap_cost legs.now) }
     ensures bound { unsigned_abs result ≤ 55000 }
 {

@@ -10,6 +10,6 @@ mod listing;
 mod tests;
 
 pub use assignment::Assignment;
-pub use costs::start_of;
+pub use costs::{edge_costs, low_of, overlap_cost, start_of};
 pub use legs::all_legs;
-pub use listing::assignments_of;
+pub use listing::{assignments_of, choices_of, degrees_of};

@@ -21,15 +21,25 @@ pub fn assignments_of(alloc: Global, web: &GradedWeb, d: u32) -> Result<Vec<Assi
     ensures { IfOk result (λ all. all.items ≡ assignments web.now d) }
 {
     let degrees = degrees_of(alloc, web)?;
-    let sizes = sizes_to(alloc, d)?;
-    let mut all = Vec::new(alloc);
-    let mut front = Vec::new(alloc);
-    push_choices(&mut all, &mut front, &sizes, &degrees, d)?;
+    let all = choices_of(alloc, &degrees, d)?;
     Ok(all)
 }
 
-// The degrees of the compact edges.
-fn degrees_of(alloc: Global, web: &GradedWeb) -> Result<Vec<u64>, AllocError>
+/// A diagram for each of these degrees, sizes times degrees at most `d` together: every choice, each once, in the order of
+/// `choices`.
+pub fn choices_of(alloc: Global, degrees: &[u64], d: u32) -> Result<Vec<Assignment>, AllocError>
+    requires { d ≤ GREATEST_DEGREE }
+    ensures { IfOk result (λ all. all.items ≡ choices degrees.now d) }
+{
+    let sizes = sizes_to(alloc, d)?;
+    let mut all = Vec::new(alloc);
+    let mut front = Vec::new(alloc);
+    push_choices(&mut all, &mut front, &sizes, degrees, d)?;
+    Ok(all)
+}
+
+/// The degrees of the compact edges.
+pub fn degrees_of(alloc: Global, web: &GradedWeb) -> Result<Vec<u64>, AllocError>
     ensures { IfOk result (λ degrees. degrees.items ≡ degrees_of web.now) }
 {
     let mut degrees = Vec::new(alloc);

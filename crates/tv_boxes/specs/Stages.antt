@@ -6,7 +6,8 @@
 -- to_come s         == the configurations that are still to come in s, in order
 -- IsLister s        == so it is in s: each assignment fits the web, and the Euler characteristic is in its limit
 -- IsAt here s       == and s is at that stage
--- steps_left s      == more than the steps from s on that find nothing
+-- rank stage        == how many steps at most lead from a stage to one between assignments or at a filling that stands
+-- steps_left s      == at most so many steps from s on find nothing: three for each assignment to come, and those of the stage
 -- IsSame s t        == t has the same to come as s
 -- IsFurther s t     == so it has, and has fewer steps left
 -- IsFound c s t     == c came first in s, and the rest is to come in t

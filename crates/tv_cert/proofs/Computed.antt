@@ -38,23 +38,8 @@ use Rattle.tv_recurrence.proofs.TakenRows.{at-empty}
 use Rattle.tv_class_parts.specs.ReadClasses.{ReadClass, find_row, part_rows, part_of}
 use Rattle.tv_class_parts.proofs.ClassesAfter.{length-after, degree-after}
 use Rattle.tv_class_parts.proofs.Lookups.{find-cases}
+use Rattle.tv_class_parts.proofs.Tables.{distinct-rises, before-degree, signed-none}
 use Rattle.tv_cert.specs.Plans.{IsPowerLine, IsProductLine}
-
-pub distinct-rises : (hs : List ℤ) (vs : List (List ℤ)) → ClassesRise hs vs → IsDistinct same_vector vs
-unfolding IsDistinct
-distinct-rises hs [] rises = tt
-distinct-rises hs (u ∷ vs) rises = (
-  all-onto (IsBefore hs u) (λ y. same_vector u y ≡ false) (λ y b. same_vector-other u y (before_apart hs u y b)) vs
-      (first_before hs u vs rises),
-  distinct-rises hs vs (rise_tail hs u vs rises),
-)
-
-before-degree : (hs u v : List ℤ) → IsBefore hs u v → degree_of hs u ≤ℤ degree_of hs v
-before-degree hs u v (inl less) = omega (arith, ints)
-before-degree hs u v (inr same) = omega (arith, ints, same.0)
-
-signed-none : (a z : ℤ) → z ≡ pos 0 → a *ℤ z ≡ pos 0
-signed-none a z e = ap (λ y. a *ℤ y) e ∙ *ℤ-zero a
 
 -- the classes before v are computed
 pub record IsNext (D : ℕ) (f : Family ℤ) (w T : ℕ) (is : List Integer) (read back : List (List ℤ)) (v : List ℤ)

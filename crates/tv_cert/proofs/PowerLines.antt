@@ -37,6 +37,7 @@ use Rattle.tv_recurrence.specs.declared.fault.RowFault.{RowFault}
 use Rattle.tv_recurrence.specs.declared.fault.RowFault.TheVariants.{Wide as RowWide, Memory as RowMemory}
 use Rattle.tv_recurrence.specs.Products.{power_by, same_step}
 use Rattle.tv_class_integers.specs.Rows.{IsRow, IsTooWideAt}
+use Rattle.tv_class_integers.proofs.Majorants.{counts, majorant-is, scale-most, twice-scaled}
 use Rattle.tv_class_parts.specs.ReadClasses.{ReadClass}
 use Rattle.tv_gv.specs.Extracted.{degree_to}
 use Rattle.tv_cert.specs.declared.fault.CertFault.{CertFault}
@@ -48,30 +49,6 @@ use Rattle.tv_cert.specs.Plans.{last_weight, IsPlan, IsPowerLine, ArePowerLines,
 use Rattle.tv_cert.proofs.Genera.{numbered, take-next}
 use Rattle.tv_cert.proofs.Named.{numbered-class}
 use Rattle.tv_cert.proofs.OwnFactors.{power-values, size-values}
-
-counts : (D : ℕ) (hs v : List ℤ) → IsClassTo D hs v → is_counted_class D hs v ≡ true
-counts D hs v class =
-    let up = class.positive.degree in
-    let entries : nat_eq (length v) (length hs) ≡ true = eq-on (length v) (length hs) class.positive.entries in
-    let least : int_le (pos 0) (degree_of hs v) ≡ true = most-true (pos 0) (degree_of hs v) (omega (arith, ints)) in
-    rw (entries, least) (most-true (degree_of hs v) (pos D) class.within)
-
-majorant-is : (D : ℕ) (N : ℤ) (f : Family ℤ) (js : List Integer) (v : List ℤ) (n : ℤ) → IsClassTo D f.heights v →
-    n ≤ℤ majorant_end D N f js → majorant D N f js v n ≡ bound_at N f js v n
-unfolding majorant
-majorant-is D N f js v n class h =
-    let count = counts D f.heights v class in
-    let ends : int_le n (majorant_end D N f js) ≡ true = most-true n (majorant_end D N f js) h in
-    rw (count, ends) refl
-
-scale-most : (d a : ℕ) (z : ℤ) → z ≤ℤ pos a → (pos d *ℤ z) ≤ℤ pos (d * a)
-scale-most d a z h =
-    let up : pos 0 ≤ℤ (pos d *ℤ (pos a -ℤ z)) = mul-nonneg-nonneg (pos d) (pos a -ℤ z) (omega (arith, ints)) (omega
-    (arith, ints)) in
-    omega (arith, ints, mul-sub (pos d) (pos a) z)
-
-twice-scaled : (d a : ℕ) → d * a ≤ (2 * d) * a
-twice-scaled d a = omega arith
 
 -- ---- the majorant of a planned report
 

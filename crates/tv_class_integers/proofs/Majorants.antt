@@ -84,14 +84,14 @@ absolute-more hs w (i ∷ more) is v n slope =
 above_false : (a b : ℤ) → b <ℤ a → int_le a b ≡ false
 above_false a b h = grind (arith, ints)
 
-counts : (D : ℕ) (hs v : List ℤ) → IsClassTo D hs v → is_counted_class D hs v ≡ true
+pub counts : (D : ℕ) (hs v : List ℤ) → IsClassTo D hs v → is_counted_class D hs v ≡ true
 counts D hs v class =
     let up = class.positive.degree in
     let entries : nat_eq (length v) (length hs) ≡ true = eq-on (length v) (length hs) class.positive.entries in
     let least : int_le (pos 0) (degree_of hs v) ≡ true = most-true (pos 0) (degree_of hs v) (omega (arith, ints)) in
     rw (entries, least) (most-true (degree_of hs v) (pos D) class.within)
 
-majorant-is : (D : ℕ) (N : ℤ) (f : Family ℤ) (js : List Integer) (v : List ℤ) (n : ℤ) → IsClassTo D f.heights v →
+pub majorant-is : (D : ℕ) (N : ℤ) (f : Family ℤ) (js : List Integer) (v : List ℤ) (n : ℤ) → IsClassTo D f.heights v →
     n ≤ℤ majorant_end D N f js → majorant D N f js v n ≡ bound_at N f js v n
 unfolding majorant
 majorant-is D N f js v n class h =
@@ -131,13 +131,13 @@ size_is_majorant D N f w read is v base more t next last far wide =
     rw (majorant-is D N f final v n next.class ends)
     (omega (arith, ints, counted-is f N v n (last.known n), twice-least d A positive))
 
-scale-most : (d a : ℕ) (z : ℤ) → z ≤ℤ pos a → (pos d *ℤ z) ≤ℤ pos (d * a)
+pub scale-most : (d a : ℕ) (z : ℤ) → z ≤ℤ pos a → (pos d *ℤ z) ≤ℤ pos (d * a)
 scale-most d a z h =
     let up : pos 0 ≤ℤ (pos d *ℤ (pos a -ℤ z)) = mul-nonneg-nonneg (pos d) (pos a -ℤ z) (omega (arith, ints)) (omega
     (arith, ints)) in
     omega (arith, ints, mul-sub (pos d) (pos a) z)
 
-twice-scaled : (d a : ℕ) → d * a ≤ (2 * d) * a
+pub twice-scaled : (d a : ℕ) → d * a ≤ (2 * d) * a
 twice-scaled d a = omega arith
 
 -- a number that degree times the product without signs bounds

@@ -52,7 +52,7 @@ use Rattle.tv_recurrence.proofs.TakenRows.{at-empty}
 
 -- ---- classes in order
 
-distinct-rises : (hs : List ℤ) (vs : List (List ℤ)) → ClassesRise hs vs → IsDistinct same_vector vs
+pub distinct-rises : (hs : List ℤ) (vs : List (List ℤ)) → ClassesRise hs vs → IsDistinct same_vector vs
 unfolding IsDistinct
 distinct-rises hs [] rises = tt
 distinct-rises hs (u ∷ vs) rises = (
@@ -66,7 +66,7 @@ unfolding IsDistinct
 distinct-front [] vs once = tt
 distinct-front (u ∷ us) vs once = (all-front (λ y. same_vector u y ≡ false) us vs once.0, distinct-front us vs once.1)
 
-before-degree : (hs u v : List ℤ) → IsBefore hs u v → degree_of hs u ≤ℤ degree_of hs v
+pub before-degree : (hs u v : List ℤ) → IsBefore hs u v → degree_of hs u ≤ℤ degree_of hs v
 before-degree hs u v (inl less) = omega (arith, ints)
 before-degree hs u v (inr same) = omega (arith, ints, same.0)
 
@@ -77,7 +77,7 @@ all-unmap P g (x ∷ xs) all = (all.0, all-unmap P g xs all.1)
 
 -- ---- what is found in a table
 
-signed-none : (a z : ℤ) → z ≡ pos 0 → a *ℤ z ≡ pos 0
+pub signed-none : (a z : ℤ) → z ≡ pos 0 → a *ℤ z ≡ pos 0
 signed-none a z e = ap (λ y. a *ℤ y) e ∙ *ℤ-zero a
 
 module _ (D : ℕ) (f : Family ℤ) (w T : ℕ) (read back : List (List ℤ)) (is : List Integer) (v : List ℤ) (base : ℕ)

@@ -6,7 +6,7 @@ use Rattle.tv_cells.specs.declared.legs.Legs.{Legs}
 use Rattle.tv_cells.specs.Extras.{AreDiagrams, count}
 use Rattle.tv_laws_symmetry.specs.Symmetry.{exchanged_xy, exchanged_yz}
 use Rattle.tv_laws_symmetry.proofs.Exchanges.{exchanged_count}
-use Rattle.tv_laws_symmetry.proofs.Images.{IsKept, all_images}
+use Rattle.tv_laws_symmetry.proofs.Images.{all_images, count-kept}
 use Rattle.tv_images.specs.Least.{legs_before, first_of, first_among, least, HasCountsOf}
 
 first-has : (P : Legs → Type 0) (a b : Legs) → P a → P b → P (first_of a b)
@@ -21,16 +21,10 @@ among-has : (P : Legs → Type 0) (a : Legs) (bs : List Legs) → P a → AllByR
 among-has P a [] here all = here
 among-has P a (b ∷ bs) here all = among-has P (first_of a b) bs (first-has P a b here all.0) all.1
 
-counts-kept : (legs : Legs) (i : ℕ) → IsKept (λ image. count image i ≡ count legs i)
-counts-kept legs i = record {
-  xy = λ image d e. exchanged_count.xy image i d ∙ e;
-  yz = λ image d e. exchanged_count.yz image i d ∙ e;
-}
-
 pub least-counts : (legs : Legs) → AreDiagrams legs → HasCountsOf legs (least legs)
 unfolding least
 least-counts legs are i =
-    among-has (λ image. count image i ≡ count legs i) legs (exchanged_xy legs ∷ exchanged_yz legs ∷ exchanged_xy (exchanged_yz (exchanged_xy legs)) ∷ exchanged_xy (exchanged_yz legs) ∷ exchanged_yz (exchanged_xy legs) ∷ []) refl (all_images (λ image. count image i ≡ count legs i) (counts-kept legs i) legs are refl).1
+    among-has (λ image. count image i ≡ count legs i) legs (exchanged_xy legs ∷ exchanged_yz legs ∷ exchanged_xy (exchanged_yz (exchanged_xy legs)) ∷ exchanged_xy (exchanged_yz legs) ∷ exchanged_yz (exchanged_xy legs) ∷ []) refl (all_images (λ image. count image i ≡ count legs i) (count-kept legs i) legs are refl).1
 
 -- the least of the six, one after another
 pub first-then : (a b : Legs) → legs_before b a ≡ true → b ≡ first_of a b

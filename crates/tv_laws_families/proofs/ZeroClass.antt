@@ -64,7 +64,7 @@ degree-zeros [] n = refl
 degree-zeros (h ∷ hs) zero = refl
 degree-zeros (h ∷ hs) (suc n) = let e : h *ℤ pos 0 ≡ pos 0 = omega (arith, ints) in rw (e, degree-zeros hs n) refl
 
-same-zeros : (n : ℕ) → same_vector (zeros n) (zeros n) ≡ true
+pub same-zeros : (n : ℕ) → same_vector (zeros n) (zeros n) ≡ true
 same-zeros zero = refl
 same-zeros (suc n) = same-zeros n
 

@@ -17,7 +17,7 @@ entries-same [] (y ∷ v) e same = absurd (omega arith)
 entries-same (x ∷ u) [] e same = absurd (omega arith)
 entries-same (x ∷ u) (y ∷ v) e same = ap (λ z. z ∷ u) (same 0) ∙ ap (λ r. y ∷ r) (entries-same u v (omega arith) (λ k. same (suc k)))
 
-difference-at : (u v : List ℤ) → length u ≡ length v → (k : ℕ) → slice_index_or (class_difference u v) k (pos 0) ≡ slice_index_or u k (pos 0) -ℤ slice_index_or v k (pos 0)
+pub difference-at : (u v : List ℤ) → length u ≡ length v → (k : ℕ) → slice_index_or (class_difference u v) k (pos 0) ≡ slice_index_or u k (pos 0) -ℤ slice_index_or v k (pos 0)
 difference-at [] [] e k = omega (arith, ints)
 difference-at [] (y ∷ v) e k = absurd (omega arith)
 difference-at (x ∷ u) [] e k = absurd (omega arith)
@@ -27,7 +27,7 @@ difference-at (x ∷ u) (y ∷ v) e (suc k) = difference-at u v (omega arith) k
 pub part-empty : (w : Web) (k : ℕ) (e : CompactEdge) → part_by w k e [] ≡ pos 0
 part-empty w k e = omega (arith, ints)
 
-class-entry : (w : Web) (t : ℕ) (g : List Rows) (b : Assignment) → length b ≡ length (compact w) → rests_on t (compact w) b ≡ true → (k : ℕ) → slice_index_or (class_of w (put (is_new t) (compact w) g b)) k (pos 0) ≡ slice_index_or (class_of w b) k (pos 0) +ℤ slice_index_or (class_of w (new_part w t g)) k (pos 0)
+pub class-entry : (w : Web) (t : ℕ) (g : List Rows) (b : Assignment) → length b ≡ length (compact w) → rests_on t (compact w) b ≡ true → (k : ℕ) → slice_index_or (class_of w (put (is_new t) (compact w) g b)) k (pos 0) ≡ slice_index_or (class_of w b) k (pos 0) +ℤ slice_index_or (class_of w (new_part w t g)) k (pos 0)
 class-entry w t g b long rests k =
     let whole = at-class_on w (compact w) (put (is_new t) (compact w) g b) k in
     let first = at-class_on w (compact w) b k in

@@ -102,7 +102,7 @@ module _ (w : Web) (d t : ℕ) (h g : List Rows) (v : List ℤ) (graded : IsGrad
   abbrev degree : Assignment → ℕ
   degree a = degree_by (weights w (compact w)) a
 
-  none-there : (b : Assignment) → Contains (assignments w d) b → is_of_state w t h (class_difference v (class_of w (new_part w t g))) b ≡ true → ⊥
+  pub none-there : (b : Assignment) → Contains (assignments w d) b → is_of_state w t h (class_difference v (class_of w (new_part w t g))) b ≡ true → ⊥
   none-there b among on =
       let is : Goes w d t [] h g v graded most within (option-is w d t g new) b = goes-is w d t [] h g v graded most within (option-is w d t g new) b among on in
       let long = listed-long w d b among in

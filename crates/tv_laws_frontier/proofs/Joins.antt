@@ -30,16 +30,16 @@ term-below : {A : Type 0} (f : A → ℕ) (x : A) (xs : List A) → Contains xs 
 term-below f x xs among = all-contains (λ y. f y ≤ sum_of f xs) xs x (sum_of-each f xs) among
 
 module _ (w : Web) (fixed : List Rows) (d t : ℕ) (h g : List Rows) (v : List ℤ) (i n : ℤ) (first : Contains (states w d t) h) (new : Contains (options w d t) g) where
-  abbrev choice : List Rows
+  abbrev pub choice : List Rows
   choice = chosen (suc t) (compact w) (near_part w t h g)
 
-  abbrev one : List Rows → List Rows → ℕ
+  abbrev pub one : List Rows → List Rows → ℕ
   one a b = joined w fixed d (kept_upto w fixed d n) (box_bound n (lowest w fixed d)) t a b v i
 
   abbrev part : List Rows → List Rows → ℕ
   part a b = cond (same_choice (chosen (suc t) (compact w) (near_part w t a b)) choice) (one a b) 0
 
-  join-below : one h g ≤ stepped w fixed d (kept_upto w fixed d n) (box_bound n (lowest w fixed d)) t choice v i
+  pub join-below : one h g ≤ stepped w fixed d (kept_upto w fixed d n) (box_bound n (lowest w fixed d)) t choice v i
   unfolding stepped
   join-below =
       let here : part h g ≡ one h g = ap (λ b. cond b (one h g) 0) (choice_equality.own choice) in

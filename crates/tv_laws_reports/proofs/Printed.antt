@@ -12,7 +12,8 @@ use Rattle.tv_report_reader.specs.Rows.{TermFits}
 use Rattle.tv_report_reader.proofs.Readings.{SpellsGv-unique}
 use Rattle.tv_report_reader.proofs.Spelled.{small_numbers, bounded_number, zeros_numbers}
 use Rattle.tv_laws_reports.specs.Laws.{SectionsReadBack}
-use Rattle.tv_laws_reports.proofs.Plain.{Above, IsPlain, spelled-above, word-above, plain_reads_back}
+use Rattle.tv_spec_text.proofs.PlainWords.{Above, IsPlain, word-above, plain_reads_back}
+use Rattle.tv_laws_reports.proofs.Plain.{spelled-above}
 
 number-printable : (z : ℤ) → IsNumber z → IsPrintable z
 number-printable (pos n) h = omega arith

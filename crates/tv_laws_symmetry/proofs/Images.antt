@@ -32,7 +32,7 @@ pub an_image : (P : Legs → Type 0) → IsKept P → (legs image : Legs) → Ar
     P image
 an_image P kept legs image d own among = all-contains P (images legs) image (all_images P kept legs d own) among
 
-count-kept : (legs : Legs) (i : ℕ) → IsKept (λ image. count image i ≡ count legs i)
+pub count-kept : (legs : Legs) (i : ℕ) → IsKept (λ image. count image i ≡ count legs i)
 count-kept legs i = record {
   xy = λ image d e. exchanged_count.xy image i d ∙ e;
   yz = λ image d e. exchanged_count.yz image i d ∙ e;

@@ -1,7 +1,7 @@
 -- The tables of all diagonals of a corner.
 --
 -- Built            == the legs of the corner and the greatest number of boxes
--- diagonal_counts r legs k far i == the entries of diagonal number i, of which the first is -far
+-- diagonal_counts r legs k far i == the entries of diagonal number i, counted from -far on
 -- IsBuilt r legs k far rows == far is the last diagonal on which a box can stand, and the rows are the entries of those from
 --                     -far to far
 -- nearest far t    == the nearest diagonal from -far to far

@@ -7,6 +7,7 @@ use Rattle.tv_spec_boxes.specs.Classes.{IsBefore, ClassesRise}
 use Rattle.tv_spec_text.specs.Lines.{Line, IsNumber}
 use Rattle.tv_spec_text.specs.Files.{end_line}
 use Rattle.tv_spec_text.specs.Reports.{Term, Rises, term_line}
+use Rattle.tv_spec_text.proofs.Readings.{kind}
 use Rattle.tv_spec_reports.specs.IntegerLines.{GenusValue, GvSection, integer_line}
 use Rattle.tv_spec_reports.specs.Grammar.{GvData, GvTermFits, IntegerFits, GeneraRise, SectionFits, SectionsFit, GvFits}
 use Rattle.tv_report_reader.specs.Rows.{class_words, TermFits, IsNoRow}
@@ -20,11 +21,6 @@ use Rattle.tv_spec_boxes.specs.Assignments.{zeros}
 use Rattle.tv_report_reader.proofs.Sections.{refit, all-refit, section-at, sections-push, sections-front, rise-push, rise-at, same-classes, opened-degree, before-later, later-before, lines-none, lines-some}
 
 -- kinds of lines, by the length of the first word
-
-abbrev kind : List Line → ℕ
-kind [] = 0
-kind ([] ∷ ls) = 0
-kind ((w ∷ ws) ∷ ls) = length w
 
 later-kind : (later : List GvSection) → (kind (lines_from later) ≡ 3) ⊎ (kind (lines_from later) ≡ 5)
 later-kind [] = inl (ap kind lines-none)

@@ -5,6 +5,7 @@ use Rattle.std.specs.List.{AllByRecursion}
 use Rattle.tv_lemmas.proofs.Members.{all-onto}
 use Rattle.tv_spec_text.specs.Lines.{Line, IsNumber, word_lines}
 use Rattle.tv_spec_text.specs.Reports.{Term, term_line}
+use Rattle.tv_spec_text.proofs.Readings.{kind}
 use Rattle.tv_spec_text.proofs.Places.{IsPlace-unique, IsPlace-none}
 use Rattle.tv_spec_reports.specs.IntegerLines.{GenusValue, GvSection, integer_line}
 use Rattle.tv_spec_reports.specs.Grammar.{GvData, GvTermFits, IntegerFits, FirstSection, SectionFits, SectionsFit, GvFits, SpellsGv, IsGv}
@@ -27,11 +28,6 @@ record HasNumbers (s : GvSection) : Type 0 where
   entries : AllByRecursion IsNumber s.section.entries
   terms : AllByRecursion TermFits s.section.terms
   integers : AllByRecursion IntegerFits s.integers
-
-abbrev kind : List Line → ℕ
-kind [] = 0
-kind ([] ∷ ls) = 0
-kind ((w ∷ ws) ∷ ls) = length w
 
 same-integers : (is js : List GenusValue) (ss ps : List GvSection) → AllByRecursion IntegerFits is → AllByRecursion IntegerFits js → map integer_line is ++ lines_from ss ≡ map integer_line js ++ lines_from ps → (is ≡ js) × (lines_from ss ≡ lines_from ps)
 same-integers [] [] ss ps h k e = (refl, e)

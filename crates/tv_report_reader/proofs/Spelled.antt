@@ -9,7 +9,8 @@ use Rattle.tv_spec_boxes.specs.Assignments.{zeros}
 use Rattle.tv_spec_text.specs.Lines.{Line, IsNumber, IsCount, spelled}
 use Rattle.tv_spec_text.specs.Files.{Spells, file_lines, heights_line}
 use Rattle.tv_spec_text.specs.Reports.{Term, term_line}
-use Rattle.tv_spec_text.proofs.Readings.{spelled_injective, Spells-unique}
+use Rattle.tv_text.proofs.Entries.{number_is_entry}
+use Rattle.tv_spec_text.proofs.Readings.{spelled_injective, count_injective, Spells-unique}
 use Rattle.tv_spec_reports.specs.IntegerLines.{GenusValue, integer_line}
 use Rattle.tv_spec_reports.specs.Grammar.{IntegerFits}
 use Rattle.tv_text.specs.Sections.{degree_line, upto_line}
@@ -98,18 +99,11 @@ term_injective t u h k e =
 integer : ℕ → ℤ → GenusValue
 integer g x = record { genus = g; value = x }
 
-count_injective : (m n : ℕ) → IsCount m → IsCount n → spelled (pos m) ≡ spelled (pos n) → m ≡ n
-count_injective m n h k e = let same : pos m ≡ pos n = spelled_injective (pos m) (pos n) h k e in cc
-
 pub integer_injective : (i j : GenusValue) → IntegerFits i → IntegerFits j → integer_line i ≡ integer_line j → i ≡ j
 unfolding integer
 integer_injective i j h k e =
     ap (λ g. integer g i.value) (count_injective i.genus j.genus h.genus k.genus (ap (λ l. get_or l 1 []) e))
     ∙ ap (λ x. integer j.genus x) (wide_injective i.value j.value h.value k.value (ap (λ l. get_or l 2 []) e))
 
-entry-limit : (z : ℤ) → IsNumber z → IsEntry z
-entry-limit (pos n) h = omega arith
-entry-limit (negsuc n) h = omega arith
-
 pub numbers-entries : (v : List ℤ) → length v ≤ 64 → AllByRecursion IsNumber v → IsEntries v
-numbers-entries v few all = record { few = few; small = all-onto IsNumber IsEntry entry-limit v all }
+numbers-entries v few all = record { few = few; small = all-onto IsNumber IsEntry number_is_entry v all }

@@ -23,7 +23,7 @@
 --                       of a web in which every compact edge has a degree of at least 1
 -- same_rows, same_choice == two diagrams, or two lists of diagrams, are equal
 -- same_vector u v    == the two vectors are equal
--- assignments_of w v == the assignments of class v
+-- assignments_of w v == the assignments of class v, of such a web
 use Rattle.std.specs.Prelude.{ℕ, zero, suc, ◌-◌, ◌*◌, ℤ, pos, ◌+ℤ◌, ◌-ℤ◌, ◌*ℤ◌, List, [], ◌∷◌, map, filter, length, slice_index_or, Bool, nat_eq, nat_le}
 use Rattle.std.specs.Ordering.{int_eq}
 use Rattle.std.specs.Cmp.Lexicographic.{pointwise}

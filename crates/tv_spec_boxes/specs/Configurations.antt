@@ -9,7 +9,8 @@
 -- configuration a extras == the configuration of both
 -- configurations_on w fixed a n == the configurations with that assignment and Euler characteristic
 -- configurations w fixed v n == the configurations of class v and Euler characteristic n, each once, in order: by the
---                        diagrams in the order of edges, then by the extras in the order of corners
+--                        diagrams in the order of edges, then by the extras in the order of corners; of a web in which
+--                        every compact edge has a degree of at least 1
 -- boxes_of sets       == the number of boxes
 -- chi_of w fixed c    == the Euler characteristic: edge costs, and boxes, less the overlap costs
 -- configuration_sign w fixed c == (-1)^(chi + s), with s the sum of the normal degree at a times the size

@@ -1,8 +1,8 @@
 -- The report of box configurations, one by one.
 --
 -- numbers rows     == the spellings of the rows
--- leg_line e rows  == the line `leg A B R0 R1 ..` of a compact edge with its diagram
--- leg_lines es a   == such a line for each edge whose diagram isn't empty
+-- leg_line e rows  == the line `leg A B R0 R1 ..` of a compact edge with its diagram, or no line where that is empty
+-- leg_lines es a   == such a line for each edge whose diagram isn't empty, in the order of edges
 -- box_line t c     == the line `box T X Y Z`
 -- box_lines t extras == the lines of the boxes of corner t, t + 1, ..
 -- config_lines w c == the lines of one configuration

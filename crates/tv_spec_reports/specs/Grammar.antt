@@ -1,7 +1,7 @@
 -- The grammar in which a report of integers is read back, by how such a report is spelled.
 --
 -- GvData          == heights, degree, order, and the sections of a report
--- IsWideValue z   == other than 0 and at most 2^127 - 1 in absolute value
+-- IsWideValue z   == other than 0, and printable
 -- GvTermFits N t, IntegerFits i == the numbers of a term line and of an integer line
 -- GeneraRise is   == genera rise
 -- FirstSection heights s == class zero: degree 0, all entries 0, one term with 1 at exponent 0, and no integer
@@ -10,13 +10,13 @@
 -- GvFits d        == what the grammar asks of the data; classes stand in their order
 -- SpellsGv ls d   == the lines spell that report
 -- IsGv ls         == the lines spell some report
-use Rattle.std.specs.Prelude.{◌≡◌, ◌≢◌, ◌≤◌, ◌<◌, ◌-◌, ◌^◌, ℤ, pos, ◌≤ℤ◌, List, [], ◌∷◌, length, map, unsigned_abs, ⊤}
+use Rattle.std.specs.Prelude.{◌≡◌, ◌≢◌, ◌≤◌, ◌<◌, ℤ, pos, ◌≤ℤ◌, List, [], ◌∷◌, length, map, unsigned_abs, ⊤}
 use Rattle.std.specs.List.{AllByRecursion}
 use Rattle.tv_spec_plane.specs.Web.{degree_of}
 use Rattle.tv_spec_boxes.specs.Assignments.{zeros}
 use Rattle.tv_spec_boxes.specs.Classes.{ClassesRise}
 use Rattle.tv_spec_text.specs.Lines.{Line, IsNumber, IsCount}
-use Rattle.tv_spec_text.specs.Reports.{Term, Rises}
+use Rattle.tv_spec_text.specs.Reports.{Term, Rises, IsPrintable}
 use Rattle.tv_spec_reports.specs.IntegerLines.{GenusValue, GvSection, gv_lines}
 
 pub record GvData : Type 0 where
@@ -27,7 +27,7 @@ pub record GvData : Type 0 where
 
 pub record IsWideValue (z : ℤ) : Type 0 where
   pub other : z ≢ pos 0
-  pub within : unsigned_abs z ≤ 2 ^ 127 - 1
+  pub within : IsPrintable z
 
 pub record GvTermFits (N : ℤ) (t : Term) : Type 0 where
   pub exponent : IsNumber t.exponent

@@ -1,3 +1,4 @@
+pub mod PlainWords
 pub mod Places
 pub mod Readings
 mod Values

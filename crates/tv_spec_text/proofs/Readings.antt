@@ -16,10 +16,10 @@ small (negsuc n) h = omega arith
 pub spelled_injective : (y z : ℤ) → IsNumber y → IsNumber z → spelled y ≡ spelled z → y ≡ z
 spelled_injective y z h k e = signed_decimal_injective y z (small y h) (small z k) e
 
-count_injective : (m n : ℕ) → IsCount m → IsCount n → spelled (pos m) ≡ spelled (pos n) → m ≡ n
+pub count_injective : (m n : ℕ) → IsCount m → IsCount n → spelled (pos m) ≡ spelled (pos n) → m ≡ n
 count_injective m n h k e = let same : pos m ≡ pos n = spelled_injective (pos m) (pos n) h k e in cc
 
-numbers_injective : (ys zs : List ℤ) → AllByRecursion IsNumber ys → AllByRecursion IsNumber zs → map spelled ys ≡ map spelled zs → ys ≡ zs
+pub numbers_injective : (ys zs : List ℤ) → AllByRecursion IsNumber ys → AllByRecursion IsNumber zs → map spelled ys ≡ map spelled zs → ys ≡ zs
 numbers_injective [] [] h k e = refl
 numbers_injective [] (z ∷ zs) h k e = cc
 numbers_injective (y ∷ ys) [] h k e = cc
@@ -47,7 +47,7 @@ triangles_injective t u h k e =
 
 -- the kind of a line, by the length of its first word
 
-abbrev kind : List Line → ℕ
+abbrev pub kind : List Line → ℕ
 kind [] = 0
 kind ([] ∷ ls) = 0
 kind ((w ∷ ws) ∷ ls) = length w

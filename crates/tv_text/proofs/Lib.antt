@@ -1,5 +1,6 @@
 pub mod BadLines
 pub mod Decimals
+pub mod Entries
 pub mod Exact
 mod Parts
 pub mod Printing

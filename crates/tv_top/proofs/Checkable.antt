@@ -25,14 +25,11 @@ use Rattle.tv_gv.specs.Extracted.{HasSmallEntries, IsExtractable}
 use Rattle.tv_cert.specs.Verified.{IsCheckable}
 use Rattle.tv_spec_reports.specs.IntegerLines.{GenusValue, GvSection}
 use Rattle.tv_spec_reports.specs.Grammar.{GvData, FirstSection, SectionFits, SectionsFit, GvFits}
+use Rattle.tv_laws_families.proofs.ZeroClass.{same-zeros}
 use Rattle.tv_report_reader.specs.Told.{value_at, series_of, row_of, family_of, integer_of, section_integers, integers_of, IsTold}
 use Rattle.tv_report_reader.specs.Faults.{IsReport}
 
 -- ---- class zero
-
-same_zeros : (n : ℕ) → same_vector (zeros n) (zeros n) ≡ true
-same_zeros zero = refl
-same_zeros (suc n) = same_zeros n
 
 one_term : List Term
 one_term = record { exponent = pos 0; coefficient = pos 1 } ∷ []
@@ -75,7 +72,7 @@ none_elsewhere N (negsuc k) h other = refl
 
 found : (hs : List ℤ) (N : ℤ) (s : GvSection) (ss : List GvSection) → FirstSection hs s → find (zeros (length hs)) (map (row_of N) (s ∷ ss)) ≡ Some (row_of N s)
 unfolding find
-found hs N s ss first = rw (first.entries, same_zeros (length hs)) refl
+found hs N s ss first = rw (first.entries, same-zeros (length hs)) refl
 
 abbrev with_sections : GvData → List GvSection → Family ℤ
 with_sections d ss = record { heights = d.heights; top = d.degree; upto = d.upto; rows = map (row_of d.upto) ss }

@@ -12,11 +12,11 @@ use Rattle.tv_text.specs.Refusals.{majorant_line, differs_line}
 use Rattle.tv_report_reader.specs.declared.limits.TheConstants.{MOST_REPORT_BYTES}
 use Rattle.tv_report_reader.specs.declared.fault.ReportError.TheVariants.{Fault}
 use Rattle.tv_report_reader.specs.Faults.{IsReport, IsReportFault}
-use Rattle.tv_top.specs.Commands.{Asks}
+use Rattle.tv_words.specs.Commands.{Asks}
 use Rattle.tv_top.specs.Answers.{Change, Gave, Deserves}
 use Rattle.tv_top.specs.Verification.{report_fault_line, IsVerdictOn, IsOnReport}
 use Rattle.tv_top.specs.Replies.{HasVerdict, Checks, IsChecked, in_text, Replies, Says, SaysText, Fails}
-use Rattle.tv_top.specs.declared.command.Command.TheVariants.{Verify}
+use Rattle.tv_words.specs.declared.command.Command.TheVariants.{Verify}
 use Rattle.tv_top.specs.declared.answer.Answer.{Answer}
 use Rattle.tv_top.specs.declared.answer.Failure.{Failure}
 use Rattle.tv_top.specs.declared.answer.Outcome.{Outcome}

@@ -25,19 +25,19 @@ use Rattle.tv_report_reader.specs.declared.limits.TheConstants.{MOST_REPORT_BYTE
 use Rattle.tv_report_reader.specs.declared.fault.ReportError.TheVariants.{Fault}
 use Rattle.tv_report_reader.specs.Faults.{IsReport as IsReportText, IsReportFault}
 use Rattle.tv_top.specs.Verification.{IsVerdictOn, DeservesVerdict, DeservesReportFault}
-use Rattle.tv_top.specs.Commands.{IsCommand, Subject, OfFile, OfGrid, OfReport, Asks, subject_of}
+use Rattle.tv_words.specs.Commands.{IsCommand, Subject, OfFile, OfGrid, OfReport, Asks, subject_of}
 use Rattle.tv_top.specs.Acceptance.{turned_web, IsFile, IsAccepted, IsUnsoundBy}
 use Rattle.tv_top.specs.Reports.{IsReport, IsWide, IsDiffers, IsUnsuited}
 use Rattle.tv_top.specs.Boxes.{Suits, IsUnsuitedAt}
 use Rattle.tv_top.specs.Rejections.{FaultOf}
 use Rattle.tv_top.specs.Answers.{Change, Gave, IsOver, IsOn, Deserves, DeservesFile, Told, Answers}
 use Rattle.tv_top.specs.Completeness.{Completes, IsGiven}
-use Rattle.tv_top.specs.declared.command.Command.{Command}
-use Rattle.tv_top.specs.declared.command.Command.TheVariants.{Check, Series, Gv, Boxes, Generate, Summary, Verify}
+use Rattle.tv_words.specs.declared.command.Command.{Command}
+use Rattle.tv_words.specs.declared.command.Command.TheVariants.{Check, Series, Gv, Boxes, Generate, Summary, Verify}
 use Rattle.tv_top.specs.declared.status.Status.{Status}
 use Rattle.tv_top.specs.declared.status.Status.TheVariants.{Done, Words, File, Wide, Differs, Memory, ReadFault, WriteFault}
 use Rattle.tv_top.proofs.Reading.{one_file, within_limits, few_bytes, read_or_refused}
-use Rattle.tv_top.proofs.SameCommand.{same_command}
+use Rattle.tv_words.proofs.SameCommand.{same_command}
 use Rattle.tv_top.proofs.Sound.{graded_or_low}
 
 -- a file that is accepted fails no check

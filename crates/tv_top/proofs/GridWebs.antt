@@ -13,7 +13,7 @@ use Rattle.tv_spec_reports.specs.Grids.{grid, grid_text}
 use Rattle.tv_grids.specs.Laws.{IsGridNumber, HasUnitDegrees}
 use Rattle.tv_grids.proofs.Passing.{grids_accepted}
 use Rattle.tv_grids.proofs.Texts.{grids_have_texts}
-use Rattle.tv_top.specs.Commands.{IsSide}
+use Rattle.tv_words.specs.Commands.{IsSide}
 use Rattle.tv_top.specs.Acceptance.{turned_web, ReadsAs, IsSound, IsUnsoundBy}
 use Rattle.tv_top.specs.Laws.{GridIsAccepted}
 use Rattle.tv_top.proofs.Completeness.{sound_or_unsound}

@@ -30,11 +30,11 @@ use Rattle.tv_spec_reports.specs.IntegersReport.{TellsIntegers, IsIntegersReport
 use Rattle.tv_reports.specs.IntegerSections.{gv_sections}
 use Rattle.tv_reports.proofs.IntegerSections.{text_tells}
 use Rattle.tv_text.specs.Refusals.{crowd_line, spread_line, majorant_line, differs_line}
-use Rattle.tv_top.specs.Commands.{IsDegree, IsIntegersOrder}
+use Rattle.tv_words.specs.Commands.{IsDegree, IsIntegersOrder}
 use Rattle.tv_top.specs.SeriesReport.{IsCrowded, IsSpreadOut}
 use Rattle.tv_top.specs.Integers.{IsMajorantBeyond, IsFirstDifference}
 use Rattle.tv_top.specs.Replies.{IsPrintedWith, PrintsIntegers, CarriesOut, IsCarriedOut, Says}
-use Rattle.tv_top.specs.declared.command.Command.TheVariants.{Gv}
+use Rattle.tv_words.specs.declared.command.Command.TheVariants.{Gv}
 use Rattle.tv_top.specs.declared.answer.Answer.{Answer}
 use Rattle.tv_top.specs.declared.answer.Failure.{Failure}
 use Rattle.tv_top.specs.declared.status.Status.TheVariants.{Wide, Differs}

@@ -1,7 +1,3 @@
-pub mod WordPlaces
-pub mod EntryWords
-pub mod Between
-pub mod SameCommand
 pub mod Told
 pub mod FullReport
 pub mod ReducedReport

@@ -15,7 +15,7 @@ use Rattle.tv_reports.specs.Sections.{section_of, sections_of, TellsRow}
 use Rattle.tv_reports.proofs.Sections.{sections_tell}
 use Rattle.tv_top.specs.SeriesReport.{IsReducedSection, IsSeriesReport}
 use Rattle.tv_top.specs.Replies.{IsPrinted, Prints, CarriesOut, IsCarriedOut}
-use Rattle.tv_top.specs.declared.command.Command.TheVariants.{Series}
+use Rattle.tv_words.specs.declared.command.Command.TheVariants.{Series}
 use Rattle.tv_top.specs.declared.answer.Answer.{Answer}
 use Rattle.tv_top.specs.declared.answer.Failure.{Failure}
 use Rattle.tv_top.proofs.Told.{terms-onto, entries_of}

@@ -20,7 +20,7 @@ use Rattle.tv_text.specs.Refusals.{crowd_line, spread_line}
 use Rattle.tv_spec_reports.specs.Grids.{grid}
 use Rattle.tv_top.specs.SeriesReport.{IsCrowded, IsSpreadOut}
 use Rattle.tv_top.specs.Replies.{CarriesOut, IsCarriedOut, Says}
-use Rattle.tv_top.specs.declared.command.Command.TheVariants.{Series, Summary}
+use Rattle.tv_words.specs.declared.command.Command.TheVariants.{Series, Summary}
 use Rattle.tv_top.specs.declared.answer.Answer.{Answer}
 use Rattle.tv_top.specs.declared.answer.Failure.{Failure}
 use Rattle.tv_top.specs.declared.status.Status.TheVariants.{Wide}

@@ -39,7 +39,7 @@ use Rattle.tv_spec_reports.specs.Grids.{grid}
 use Rattle.tv_text.specs.Refusals.{fault_line}
 use Rattle.tv_outside.specs.Faults.{RoseOnce}
 use Rattle.tv_outside.specs.Writing.{GivesAll, GivesPart}
-use Rattle.tv_top.specs.Commands.{Subject, OfFile, OfGrid, OfReport, Asks, IsCommand, subject_of}
+use Rattle.tv_words.specs.Commands.{Subject, OfFile, OfGrid, OfReport, Asks, IsCommand, subject_of}
 use Rattle.tv_top.specs.Acceptance.{IsAccepted}
 use Rattle.tv_top.specs.Rejections.{FaultOf}
 use Rattle.tv_top.specs.Reports.{IsReport, IsWide, IsDiffers, IsUnsuited, IsBegun}
@@ -47,7 +47,7 @@ use Rattle.tv_spec_plane.specs.declared.limits.TheConstants.{MOST_BYTES}
 use Rattle.tv_report_reader.specs.declared.limits.TheConstants.{MOST_REPORT_BYTES}
 pub use Rattle.tv_top.specs.Changes.{Change, Gave}
 use Rattle.tv_top.specs.Verification.{DeservesVerdict, DeservesReportFault}
-use Rattle.tv_top.specs.declared.command.Command.{Command}
+use Rattle.tv_words.specs.declared.command.Command.{Command}
 use Rattle.tv_top.specs.declared.status.Status.{Status}
 use Rattle.tv_top.specs.declared.status.Status.TheVariants.{Done, Words, File, Wide, Differs, Memory, ReadFault, WriteFault}
 

@@ -14,7 +14,7 @@ use Rattle.tv_spec_boxes.specs.Assignments.{no_legs}
 use Rattle.tv_spec_boxes.specs.Configurations.{configurations}
 use Rattle.tv_spec_text.specs.Lines.{Line, text_of}
 use Rattle.tv_spec_reports.specs.Boxes.{boxes_head, config_lines, boxes_text}
-use Rattle.tv_top.specs.declared.command.TheConstants.{MAX_DEGREE}
+use Rattle.tv_words.specs.declared.command.TheConstants.{MAX_DEGREE}
 
 pub record Suits (w : Web) (v : List ℤ) : Type 0 where
   pub one_each : length v ≡ length w.points

@@ -23,8 +23,8 @@ use Rattle.tv_spec_partial.specs.Partial.{partial_chi, partial_sign}
 use Rattle.tv_spec_reports.specs.Grids.{grid, grid_text}
 use Rattle.tv_spec_plane.specs.declared.limits.TheConstants.{MOST_BYTES}
 use Rattle.tv_report_reader.specs.declared.limits.TheConstants.{MOST_REPORT_BYTES}
-use Rattle.tv_top.specs.declared.command.TheConstants.{MIN_SIDE, MAX_SIDE, MAX_DEGREE, MIN_ORDER, MIN_INTEGERS_ORDER, MAX_ORDER}
-use Rattle.tv_top.specs.Commands.{IsSide}
+use Rattle.tv_words.specs.declared.command.TheConstants.{MIN_SIDE, MAX_SIDE, MAX_DEGREE, MIN_ORDER, MIN_INTEGERS_ORDER, MAX_ORDER}
+use Rattle.tv_words.specs.Commands.{IsSide}
 use Rattle.tv_top.specs.Acceptance.{IsAccepted}
 use Rattle.tv_top.specs.Rejections.{FaultOf}
 

@@ -1,9 +1,7 @@
-pub mod Commands
 pub mod Acceptance
 pub mod SeriesReport
 pub mod Integers
 pub mod Boxes
-pub mod Entries
 pub mod Reports
 pub mod Rejections
 pub mod Status

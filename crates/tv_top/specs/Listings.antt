@@ -17,7 +17,7 @@ use Rattle.tv_spec_text.specs.Lines.{text_of}
 use Rattle.tv_spec_reports.specs.Boxes.{config_lines}
 use Rattle.tv_top.specs.Answers.{Change, memory_text, Told}
 use Rattle.tv_top.specs.Replies.{CarriesOut}
-use Rattle.tv_top.specs.declared.command.Command.{Command}
+use Rattle.tv_words.specs.declared.command.Command.{Command}
 use Rattle.tv_top.specs.declared.status.Status.{Status}
 use Rattle.tv_top.specs.declared.status.Status.TheVariants.{Done, Memory}
 use Rattle.tv_top.specs.declared.pieces.Step.{Step}

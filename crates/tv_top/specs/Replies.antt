@@ -40,7 +40,7 @@ use Rattle.tv_spec_reports.specs.IntegerLines.{HasSmallNumbers, gv_text}
 use Rattle.tv_lattice.specs.declared.fault.FileFault.{FileFault}
 use Rattle.tv_spec_reports.specs.Summaries.{Summary, IsSummary, HasSmallCounts, summary_text}
 use Rattle.tv_text.specs.Refusals.{fault_line}
-use Rattle.tv_top.specs.Commands.{IsOrder}
+use Rattle.tv_words.specs.Commands.{IsOrder}
 use Rattle.tv_top.specs.Acceptance.{IsAccepted}
 use Rattle.tv_top.specs.Boxes.{Suits}
 use Rattle.tv_top.specs.Reports.{IsReport, IsWide, IsDiffers, IsUnsuited, IsBegun}
@@ -51,8 +51,8 @@ use Rattle.tv_report_reader.specs.declared.fault.ReportError.TheVariants.{Fault 
 use Rattle.tv_report_reader.specs.Faults.{IsReport as IsReportText, IsReportFault}
 use Rattle.tv_top.specs.Verification.{IsVerdictOn, report_fault_line}
 use Rattle.tv_top.specs.Answers.{Change, Deserves, DeservesRead, words_text, memory_text, read_text}
-use Rattle.tv_top.specs.declared.command.Command.{Command}
-use Rattle.tv_top.specs.declared.command.Command.TheVariants.{Boxes}
+use Rattle.tv_words.specs.declared.command.Command.{Command}
+use Rattle.tv_words.specs.declared.command.Command.TheVariants.{Boxes}
 use Rattle.tv_top.specs.declared.status.Status.{Status}
 use Rattle.tv_top.specs.declared.status.Status.TheVariants.{Done, Words, File, Wide, Differs, Memory as WantOfMemory}
 use Rattle.tv_top.specs.declared.answer.Answer.{Answer}

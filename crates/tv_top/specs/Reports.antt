@@ -29,8 +29,8 @@ use Rattle.tv_spec_reports.specs.IntegersReport.{IsIntegersReport}
 use Rattle.tv_top.specs.SeriesReport.{IsSeriesReport, IsCrowded, IsSpreadOut}
 use Rattle.tv_top.specs.Integers.{IsMajorantBeyond, IsFirstDifference}
 use Rattle.tv_top.specs.Boxes.{IsUnsuitedAt, IsBoxesReport, IsBeginning}
-use Rattle.tv_top.specs.declared.command.Command.{Command}
-use Rattle.tv_top.specs.declared.command.Command.TheVariants.{Check, Series, Gv, Boxes, Generate, Summary, Verify}
+use Rattle.tv_words.specs.declared.command.Command.{Command}
+use Rattle.tv_words.specs.declared.command.Command.TheVariants.{Check, Series, Gv, Boxes, Generate, Summary, Verify}
 
 abbrev pub IsCrowdLine : Web → ℕ → ℤ → Line → Type 0
 IsCrowdLine w degree upto line = (v : List ℤ) × IsCrowded w degree upto v × (line ≡ crowd_line v)

@@ -23,9 +23,9 @@ use Rattle.tv_spec_reports.specs.Verdicts.{verdict_text, long_report_line, repor
 use Rattle.tv_report_reader.specs.declared.limits.TheConstants.{MOST_REPORT_BYTES}
 use Rattle.tv_report_reader.specs.declared.fault.ReportError.TheVariants.{Fault}
 use Rattle.tv_report_reader.specs.Faults.{IsReport, IsReportFault}
-use Rattle.tv_top.specs.Commands.{Asks}
+use Rattle.tv_words.specs.Commands.{Asks}
 use Rattle.tv_top.specs.Changes.{Change, Gave}
-use Rattle.tv_top.specs.declared.command.Command.TheVariants.{Verify}
+use Rattle.tv_words.specs.declared.command.Command.TheVariants.{Verify}
 use Rattle.tv_top.specs.declared.status.Status.{Status}
 use Rattle.tv_top.specs.declared.status.Status.TheVariants.{Done, Wide, Differs}
 

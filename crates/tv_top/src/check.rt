@@ -3,11 +3,11 @@
 ghost use Rattle.tv_top.specs.Replies.{IsCarriedOut};
 
 use crate::answer::{Answer, Failure};
-use crate::command::Command;
 use crate::status::Status;
 use std::alloc::Global;
 use tv_degrees::grade::GradedWeb;
 use tv_reports::check::print_check;
+use tv_words::Command;
 
 /// The report of the check.
 pub(crate) fn check_answer(alloc: Global, web: &GradedWeb) -> Result<Answer, Failure>

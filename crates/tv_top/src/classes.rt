@@ -2,12 +2,11 @@
 
 ghost use Rattle.std.specs.Prelude.{◌≡◌, length, MatchResult};
 ghost use Rattle.tv_top.specs.Boxes.{Suits, IsUnsuitedAt};
-ghost use Rattle.tv_top.specs.Commands.{IsOrder};
+ghost use Rattle.tv_words.specs.Commands.{IsOrder};
 
-use crate::command::MAX_DEGREE;
-use crate::entries::Entries;
 use tv_degrees::grade::GradedWeb;
 use tv_lattice::class::Class;
+use tv_words::{Entries, MAX_DEGREE};
 
 /// The class of the web with these entries, or the place of the words at which they leave those that may be asked for.
 pub(crate) fn class_of(web: &GradedWeb, entries: Entries) -> Result<Class, u64>

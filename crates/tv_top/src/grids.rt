@@ -2,12 +2,11 @@
 
 ghost use Rattle.std.specs.Prelude.{◌≡◌, MatchResult};
 ghost use Rattle.tv_spec_reports.specs.Grids.{grid};
-ghost use Rattle.tv_top.specs.Commands.{IsSide, IsDegree, IsOrder};
+ghost use Rattle.tv_words.specs.Commands.{IsSide, IsDegree, IsOrder};
 ghost use Rattle.tv_top.specs.Replies.{IsCarriedOut, Summarizes};
 
 use crate::acceptance::web_of;
 use crate::answer::{Answer, Failure};
-use crate::command::Command;
 use crate::series::too_crowded;
 use crate::status::Status;
 use std::alloc::Global;
@@ -20,6 +19,7 @@ use tv_lattice::fault::InputError;
 use tv_reports::series::sections_of;
 use tv_reports::summary::{print_summary, summarize};
 use tv_ring::Whole;
+use tv_words::Command;
 
 /// The file of the grid of that side.
 pub(crate) fn generate_answer(alloc: Global, side: u32) -> Result<Answer, Failure>

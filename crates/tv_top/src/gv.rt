@@ -6,11 +6,10 @@ ghost use Rattle.tv_spec_boxes.specs.Assignments.{no_legs};
 ghost use Rattle.tv_spec_series.specs.ReducedFamilies.{IsReducedFamily};
 ghost use Rattle.tv_gv.specs.Extracted.{IsExtractable, HasIntegers};
 ghost use Rattle.tv_text.specs.Refusals.{majorant_line, differs_line};
-ghost use Rattle.tv_top.specs.Commands.{IsDegree, IsIntegersOrder};
+ghost use Rattle.tv_words.specs.Commands.{IsDegree, IsIntegersOrder};
 ghost use Rattle.tv_top.specs.Replies.{IsCarriedOut, Says, PrintsIntegers};
 
 use crate::answer::{Answer, Failure, refuse};
-use crate::command::Command;
 use crate::series::{spread_out, too_crowded};
 use crate::status::Status;
 use std::alloc::Global;
@@ -23,6 +22,7 @@ use tv_reduced::{ReducedFault, reduced};
 use tv_reports::gv::print_gv;
 use tv_ring::Whole;
 use tv_text::refusal::{Refusal, WideNumber};
+use tv_words::Command;
 
 /// The report of the reduced series in degrees through `degree` and with exponents through `upto`, and of their integers, or why
 /// there is none.

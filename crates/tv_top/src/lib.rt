@@ -6,8 +6,6 @@ mod acceptance;
 mod answer;
 mod check;
 mod classes;
-mod command;
-mod entries;
 mod grids;
 mod gv;
 pub mod laws;
@@ -22,10 +20,5 @@ mod tests;
 mod verification;
 
 pub use acceptance::accept;
-pub use command::{
-    Command, MAX_DEGREE, MAX_ORDER, MAX_SIDE, MIN_INTEGERS_ORDER, MIN_ORDER, MIN_SIDE, WordsError,
-    parse_words,
-};
-pub use entries::Entries;
 pub use running::run;
 pub use status::Status;

@@ -7,11 +7,10 @@ ghost use Rattle.tv_spec_boxes.specs.Configurations.{Configuration, configuratio
 ghost use Rattle.tv_spec_boxes.specs.Assignments.{no_legs};
 ghost use Rattle.tv_top.specs.Answers.{Told};
 ghost use Rattle.tv_top.specs.Boxes.{Suits};
-ghost use Rattle.tv_top.specs.Commands.{IsOrder};
+ghost use Rattle.tv_words.specs.Commands.{IsOrder};
 ghost use Rattle.tv_top.specs.Listings.{IsTold, Finishes, Steps};
 
 use crate::answer::Listing;
-use crate::command::Command;
 use crate::status::Status;
 use crate::telling::{tell, tell_memory};
 use std::alloc::Global;
@@ -20,6 +19,7 @@ use tv_degrees::grade::GradedWeb;
 use tv_lattice::class::Class;
 use tv_outside::{Sink, write_all};
 use tv_reports::boxes::{print_boxes_head, print_config};
+use tv_words::Command;
 
 const END_TEXT: &[u8] = b"end\n";
 

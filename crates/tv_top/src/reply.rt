@@ -1,7 +1,7 @@
 //! What a run is to tell: a report, or one refusal. Nothing is written here, and each command's report is made elsewhere.
 
 ghost use Rattle.std.specs.Prelude.{◌≡◌, ℕ, List, map, string_bytes};
-ghost use Rattle.tv_top.specs.Commands.{Subject, OfFile, Asks, IsAsked, IsOrder, subject_of};
+ghost use Rattle.tv_words.specs.Commands.{Subject, OfFile, Asks, IsAsked, IsOrder, subject_of};
 ghost use Rattle.tv_top.specs.Answers.{Reads};
 ghost use Rattle.tv_top.specs.Replies.{IsAnswered, IsJudged, Replies};
 
@@ -9,8 +9,6 @@ use crate::acceptance::accept;
 use crate::answer::{Failure, Listing, Outcome, in_text, refuse, reject};
 use crate::check::check_answer;
 use crate::classes::class_of;
-use crate::command::{Command, WordsError, parse_words};
-use crate::entries::Entries;
 use crate::grids::{generate_answer, summary_answer};
 use crate::gv::gv_answer;
 use crate::series::series_answer;
@@ -22,6 +20,7 @@ use tv_lattice::fault::{FileFault, InputError};
 use tv_outside::{ReadEnd, Source, read_all};
 use tv_spec_plane::limits::MOST_BYTES;
 use tv_text::refusal::Refusal;
+use tv_words::{Command, Entries, WordsError, parse_words};
 
 /// What the words and the source deserve. The words are looked at first, and nothing is read where they are refused.
 pub(crate) fn reply<S: Source>(

@@ -2,11 +2,10 @@
 //! computed and printed is not looked at here.
 
 ghost use Rattle.tv_text.specs.Refusals.{crowd_line, spread_line};
-ghost use Rattle.tv_top.specs.Commands.{IsDegree, IsOrder};
+ghost use Rattle.tv_words.specs.Commands.{IsDegree, IsOrder};
 ghost use Rattle.tv_top.specs.Replies.{IsCarriedOut, Prints, Says};
 
 use crate::answer::{Answer, Failure, refuse};
-use crate::command::Command;
 use crate::status::Status;
 use std::alloc::Global;
 use tv_degrees::grade::GradedWeb;
@@ -18,6 +17,7 @@ use tv_reports::series::print_series;
 use tv_ring::Whole;
 use tv_text::refusal::{Refusal, WideNumber};
 use tv_text::series::Kind;
+use tv_words::Command;
 
 /// The report of the series of that kind, in degrees through `degree` and with exponents through `upto`, or why there is
 /// none.

@@ -6,13 +6,12 @@ ghost use Rattle.tv_spec_text.specs.Lines.{line_text};
 ghost use Rattle.tv_cert.specs.Verified.{IsCheckable};
 ghost use Rattle.tv_spec_reports.specs.Verdicts.{verdict_text};
 ghost use Rattle.tv_text.specs.Refusals.{majorant_line, differs_line};
-ghost use Rattle.tv_top.specs.Commands.{Asks};
+ghost use Rattle.tv_words.specs.Commands.{Asks};
 ghost use Rattle.tv_top.specs.Answers.{Reads};
 ghost use Rattle.tv_top.specs.Verification.{report_fault_line};
 ghost use Rattle.tv_top.specs.Replies.{HasVerdict, IsChecked, Replies, Says, SaysText};
 
 use crate::answer::{Answer, Failure, Outcome, in_text};
-use crate::command::Command;
 use crate::gv::{beyond_majorant, differs};
 use crate::status::Status;
 use std::alloc::{AllocError, Global};
@@ -22,6 +21,7 @@ use tv_lattice::fault::ReportFault;
 use tv_outside::{ReadEnd, Source, read_all};
 use tv_report_reader::limits::MOST_REPORT_BYTES;
 use tv_report_reader::{ReportError, read_report};
+use tv_words::Command;
 
 const YES_TEXT: &[u8] = b"report verify\nverdict yes\nend\n";
 

@@ -1,5 +1,5 @@
 use Rattle.std.proofs.Common.{◌≡◌, ◌+◌, ◌≤◌, List, ℕ, length, arith, ◌∙◌, subst}
-use Rattle.tv_top.specs.Commands.{OfFile}
+use Rattle.tv_words.specs.Commands.{OfFile}
 use Rattle.tv_top.specs.Replies.{IsJudged}
 use Rattle.tv_spec_plane.specs.declared.limits.TheConstants.{MOST_BYTES}
 use Rattle.tv_top.proofs.RejectedReply.{too_long_reply, judged_reply, command_reads, read_failed}

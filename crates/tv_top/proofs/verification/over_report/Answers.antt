@@ -1,8 +1,8 @@
 use Rattle.std.proofs.Common.{◌≡◌, ◌+◌, ◌≤◌, List, ℕ, length, arith, ◌∙◌, subst, refl}
 use Rattle.tv_report_reader.specs.declared.limits.TheConstants.{MOST_REPORT_BYTES}
-use Rattle.tv_top.specs.Commands.{OfReport}
+use Rattle.tv_words.specs.Commands.{OfReport}
 use Rattle.tv_top.specs.Replies.{IsChecked}
-use Rattle.tv_top.specs.declared.command.Command.TheVariants.{Verify}
+use Rattle.tv_words.specs.declared.command.Command.TheVariants.{Verify}
 use Rattle.tv_top.proofs.RejectedReply.{command_reads, read_failed}
 use Rattle.tv_top.proofs.CheckedReply.{long_reply, checked_reply}
 use Rattle.tv_top.proofs.verification.over_report.Goals as goal

@@ -1,5 +1,0 @@
-use Rattle.tv_top.proofs.WordPlaces.{place_first}
-use Rattle.tv_top.proofs.command.parse_words.Goals as goal
-
-pub returns-in_default : goal.returns-in_default
-returns-in_default c = place_first _ c.in_default.ensures

@@ -1,6 +1,0 @@
-use Rattle.std.proofs.Common.{sym, ◌∙◌}
-use Rattle.tv_top.proofs.WordPlaces.{place_after_verify, some_word}
-use Rattle.tv_top.proofs.command.verify.Goals as goal
-
-pub returns-then-not-is_empty : goal.returns-then-not-is_empty
-returns-then-not-is_empty c = place_after_verify _ (some_word _ _ (sym c.if-not-is_empty.true ∙ c.is_empty.ensures))

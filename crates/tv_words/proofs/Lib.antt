@@ -1,0 +1,4 @@
+pub mod WordPlaces
+pub mod EntryWords
+pub mod Between
+pub mod SameCommand
