@@ -1,9 +1,10 @@
 //! Sets of extras one at a time, as they are known from outside: beside no legs plane partitions, and beside a leg what the
 //! vertex counts.
 
-ghost use Rattle.std.specs.Prelude.{◌≡◌, length, IfOk};
+ghost use Rattle.std.specs.Prelude.{◌≤◌};
 
 use crate::fillings::Fillings;
+use crate::search::MOST_BOXES;
 use crate::sets::Sets;
 use std::alloc::Global;
 use std::test::Fail;
@@ -15,74 +16,86 @@ fn cell(x: u32, y: u32, z: u32) -> Cell {
     Cell { x, y, z }
 }
 
-fn leg(alloc: Global, is_there: bool) -> Result<Diagram, Fail> {
-    if !is_there {
-        return Ok(Diagram::empty(alloc));
+// The diagram of one cell where it is there, else the empty one.
+fn leg(alloc: Global, is_there: bool) -> Option<Diagram> {
+    if is_there {
+        Diagram::new(vec![in alloc; 1].ok()?)
+    } else {
+        Some(Diagram::empty(alloc))
     }
-    let mut rows = Vec::new(alloc);
-    rows.push(1)?;
-    Ok(Diagram::new(rows).ok_or("a diagram")?)
 }
 
 // No leg along x and y, and one of one cell along z where it is there.
-fn legs(alloc: Global, along_z: bool) -> Result<Legs, Fail> {
-    Ok(Legs {
+fn legs(alloc: Global, along_z: bool) -> Option<Legs> {
+    let along_z = leg(alloc, along_z)?;
+    Some(Legs {
         along_x: Diagram::empty(alloc),
         along_y: Diagram::empty(alloc),
-        along_z: leg(alloc, along_z)?,
+        along_z,
     })
 }
 
-fn next(sets: &mut Sets) -> Result<Vec<Cell>, Fail> {
-    Ok(sets.next()?.ok_or("a set")?)
+// The sets of this many boxes.
+fn start(alloc: Global, along_z: bool, boxes: u32) -> Result<Sets, Fail>
+    requires { boxes ≤ MOST_BOXES }
+{
+    Ok(Sets::start(alloc, legs(alloc, along_z).ok_or("legs")?, boxes)?)
 }
 
-fn is_empty(sets: &mut Sets) -> Result<bool, Fail> {
-    Ok(sets.next()?.is_none())
+// Whether this set is next.
+fn gives(sets: &mut Sets, want: &[Cell]) -> bool {
+    match sets.next() {
+        Ok(Some(set)) => set.as_slice() == want,
+        _ => false,
+    }
+}
+
+fn ends(sets: &mut Sets) -> bool {
+    matches!(sets.next(), Ok(None))
 }
 
 #[test]
 fn lists_two_boxes(rt: HostRuntime) -> Result<(), Fail> {
-    let mut sets = Sets::start(rt.alloc(), legs(rt.alloc(), false)?, 2)?;
-    assert!(rt; next(&mut sets)?.as_slice() == [cell(1, 0, 0), cell(0, 0, 0)].as_slice());
-    assert!(rt; next(&mut sets)?.as_slice() == [cell(0, 0, 0), cell(0, 0, 1)].as_slice());
-    assert!(rt; next(&mut sets)?.as_slice() == [cell(0, 0, 0), cell(0, 1, 0)].as_slice());
-    assert!(rt; is_empty(&mut sets)?);
-    assert!(rt; is_empty(&mut sets)?);
+    let mut sets = start(rt.alloc(), false, 2)?;
+    assert!(rt; gives(&mut sets, &[cell(1, 0, 0), cell(0, 0, 0)]));
+    assert!(rt; gives(&mut sets, &[cell(0, 0, 0), cell(0, 0, 1)]));
+    assert!(rt; gives(&mut sets, &[cell(0, 0, 0), cell(0, 1, 0)]));
+    assert!(rt; ends(&mut sets) && ends(&mut sets));
     Ok(())
 }
 
 #[test]
 fn lists_one_box_beside_a_leg(rt: HostRuntime) -> Result<(), Fail> {
-    let mut sets = Sets::start(rt.alloc(), legs(rt.alloc(), true)?, 1)?;
-    assert!(rt; next(&mut sets)?.as_slice() == [cell(1, 0, 0)].as_slice());
-    assert!(rt; next(&mut sets)?.as_slice() == [cell(0, 1, 0)].as_slice());
-    assert!(rt; is_empty(&mut sets)?);
+    let mut sets = start(rt.alloc(), true, 1)?;
+    assert!(rt; gives(&mut sets, &[cell(1, 0, 0)]) && gives(&mut sets, &[cell(0, 1, 0)]));
+    assert!(rt; ends(&mut sets));
     Ok(())
 }
 
-fn corners(alloc: Global) -> Result<Vec<Legs>, Fail>
-    ensures { IfOk result (λ corners. length corners.items ≡ 2) }
-{
-    let mut corners = Vec::new(alloc);
-    corners.push(legs(alloc, true)?)?;
-    corners.push(legs(alloc, false)?)?;
-    Ok(corners)
+// Two corners, the first beside a leg.
+fn corners(alloc: Global) -> Option<Vec<Legs>> {
+    vec![in alloc; legs(alloc, true)?, legs(alloc, false)?].ok()
+}
+
+// Whether this filling of two corners is next.
+fn fills(fillings: &mut Fillings, first: &[Cell], second: &[Cell]) -> bool {
+    matches!(fillings.next(), Ok(true))
+        && fillings.len() == 2
+        && fillings.at(0) == first
+        && fillings.at(1) == second
+}
+
+fn is_filled(fillings: &mut Fillings) -> bool {
+    matches!(fillings.next(), Ok(false))
 }
 
 #[test]
 fn lists_fillings_by_one_box(rt: HostRuntime) -> Result<(), Fail> {
-    let mut fillings = Fillings::start(rt.alloc(), corners(rt.alloc())?, 1)?;
-    assert_eq!(rt; fillings.len(), 2);
-    assert!(rt; fillings.next()?);
-    assert!(rt; fillings.at(0).is_empty());
-    assert!(rt; fillings.at(1) == [cell(0, 0, 0)].as_slice());
-    assert!(rt; fillings.next()?);
-    assert!(rt; fillings.at(0) == [cell(1, 0, 0)].as_slice());
-    assert!(rt; fillings.at(1).is_empty());
-    assert!(rt; fillings.next()?);
-    assert!(rt; fillings.at(0) == [cell(0, 1, 0)].as_slice());
-    assert!(rt; !fillings.next()?);
-    assert!(rt; !fillings.next()?);
+    let corners = corners(rt.alloc()).ok_or("two corners")?;
+    let mut fillings = Fillings::start(rt.alloc(), corners, 1)?;
+    assert!(rt; fills(&mut fillings, &[], &[cell(0, 0, 0)]));
+    assert!(rt; fills(&mut fillings, &[cell(1, 0, 0)], &[]));
+    assert!(rt; fills(&mut fillings, &[cell(0, 1, 0)], &[]));
+    assert!(rt; is_filled(&mut fillings) && is_filled(&mut fillings));
     Ok(())
 }

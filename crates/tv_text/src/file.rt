@@ -66,47 +66,51 @@ mod tests {
     const WITHOUT_LAST_FEED: &str =
         "tv 1\npoint 0 0\npoint 1 0\npoint 1 1\npoint 0 1\ntriangle 0 1 2\ntriangle 0 2 3\nheights 0 1 0 0\nend";
 
-    fn fault(alloc: Global, bytes: &[u8]) -> Result<Option<FileFault>, Fail> {
+    // The conifold's square, its two triangles and its heights.
+    fn is_conifold(file: &FileData) -> bool {
+        file.points.len() == 4
+            && file.points[2].x() == 1
+            && file.points[2].y() == 1
+            && file.points[3].x() == 0
+            && file.triangles.len() == 2
+            && file.triangles[1].c == 3
+            && file.heights.as_slice() == [0, 1, 0, 0].as_slice()
+    }
+
+    fn spells_conifold(alloc: Global, text: &str) -> bool {
+        match read_file(alloc, text.as_bytes()) {
+            Ok(file) => is_conifold(&file),
+            Err(_) => false,
+        }
+    }
+
+    #[test]
+    fn reads_the_conifold(rt: HostRuntime) {
+        assert!(rt; spells_conifold(rt.alloc(), CONIFOLD));
+        assert!(rt; spells_conifold(rt.alloc(), WITH_RETURNS));
+        assert!(rt; spells_conifold(rt.alloc(), WITHOUT_LAST_FEED));
+    }
+
+    fn is_refused(alloc: Global, bytes: &[u8], want: FileFault) -> bool {
         match read_file(alloc, bytes) {
-            Ok(_) => Ok(None),
-            Err(InputError::Fault(fault)) => Ok(Some(fault)),
-            Err(InputError::Memory) => Err(InputError::Memory)?,
+            Err(InputError::Fault(fault)) => fault == want,
+            _ => false,
         }
     }
 
-    #[test]
-    fn reads_the_conifold(rt: HostRuntime) -> Result<(), Fail> {
-        for text in [CONIFOLD, WITH_RETURNS, WITHOUT_LAST_FEED] {
-            let file = read_file(rt.alloc(), text.as_bytes())?;
-            assert_eq!(rt; file.points.len(), 4);
-            assert_eq!(rt; file.points[2].x(), 1);
-            assert_eq!(rt; file.points[2].y(), 1);
-            assert_eq!(rt; file.points[3].x(), 0);
-            assert_eq!(rt; file.triangles.len(), 2);
-            assert_eq!(rt; file.triangles[1].c, 3);
-            assert_eq!(rt; file.heights.as_slice(), [0, 1, 0, 0].as_slice());
-        }
-        Ok(())
-    }
+    const PAST_ASCII: &[u8] = b"tv 1\npoint 0 0\npoint 0 \xc8\nheights\nend\n";
 
     #[test]
-    fn names_a_byte_past_ascii(rt: HostRuntime) -> Result<(), Fail> {
-        let mut bytes = Vec::from_slice(rt.alloc(), b"tv 1\npoint 0 0\npoint 0 ".as_slice())?;
-        bytes.push(200)?;
-        bytes.extend_from_slice(b"\nheights\nend\n".as_slice())?;
-        assert_eq!(rt; fault(rt.alloc(), &bytes)?, Some(FileFault::Line(3)));
-        Ok(())
+    fn names_a_byte_past_ascii(rt: HostRuntime) {
+        assert!(rt; is_refused(rt.alloc(), PAST_ASCII, FileFault::Line(3)));
     }
 
     #[test]
     fn counts_the_bytes(rt: HostRuntime) -> Result<(), Fail> {
-        let mut bytes = Vec::new(rt.alloc());
-        for _ in 0..MOST_BYTES {
-            bytes.push(b' ')?;
-        }
-        assert_eq!(rt; fault(rt.alloc(), &bytes)?, Some(FileFault::Line(1)));
-        bytes.push(b' ')?;
-        assert_eq!(rt; fault(rt.alloc(), &bytes)?, Some(FileFault::TooLong));
+        let most = vec![in rt.alloc(); b' '; MOST_BYTES]?;
+        assert!(rt; is_refused(rt.alloc(), &most, FileFault::Line(1)));
+        let more = vec![in rt.alloc(); b' '; MOST_BYTES + 1]?;
+        assert!(rt; is_refused(rt.alloc(), &more, FileFault::TooLong));
         Ok(())
     }
 }

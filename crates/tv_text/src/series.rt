@@ -193,32 +193,44 @@ mod tests {
     use super::*;
     use std::test::Fail;
 
+    const REPORT: &[u8] =
+        b"report series full\nheights 0 0 0\ndegree 0\nupto 4\nclass 0 0 0 0\nterm 0 1\nterm 1 -1\nterm 2 3\nterm 3 -6\nterm 4 13\nend\n";
+
+    fn term(exponent: i64, coefficient: i128) -> Term {
+        Term {
+            exponent,
+            coefficient,
+        }
+    }
+
+    // The class of no edge, of degree 0, with these terms.
+    fn section(alloc: Global, terms: &[Term]) -> Result<Section, AllocError> {
+        Ok(Section {
+            degree: 0,
+            entries: [0, 0, 0].to_vec(alloc)?,
+            terms: terms.to_vec(alloc)?,
+        })
+    }
+
+    // Whether the report of one class through 4 is this text.
+    fn reports(alloc: Global, section: Section, text: &[u8]) -> bool {
+        match print_sections(alloc, Kind::Full, &[0, 0, 0], 0, 4, &[section]) {
+            Ok(report) => report.as_slice() == text,
+            Err(_) => false,
+        }
+    }
+
     #[test]
     fn prints_one_corner(rt: HostRuntime) -> Result<(), Fail> {
-        let mut terms = Vec::new(rt.alloc());
-        for (exponent, coefficient) in [(0, 1), (1, -1), (2, 3), (3, -6), (4, 13)] {
-            terms.push(Term {
-                exponent,
-                coefficient,
-            })?;
-        }
-        let entries = Vec::from_slice(rt.alloc(), [0, 0, 0].as_slice())?;
-        let sections = [Section {
-            degree: 0,
-            entries,
-            terms,
-        }];
-        let report = print_sections(
-            rt.alloc(),
-            Kind::Full,
-            [0, 0, 0].as_slice(),
-            0,
-            4,
-            sections.as_slice(),
-        )?;
-        let text =
-            "report series full\nheights 0 0 0\ndegree 0\nupto 4\nclass 0 0 0 0\nterm 0 1\nterm 1 -1\nterm 2 3\nterm 3 -6\nterm 4 13\nend\n";
-        assert_eq!(rt; report.as_slice(), text.as_bytes());
+        let terms = [
+            term(0, 1),
+            term(1, -1),
+            term(2, 3),
+            term(3, -6),
+            term(4, 13),
+        ];
+        let section = section(rt.alloc(), &terms)?;
+        assert!(rt; reports(rt.alloc(), section, REPORT));
         Ok(())
     }
 }
