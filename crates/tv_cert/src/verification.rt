@@ -18,7 +18,7 @@ use tv_integers::Report;
 use tv_lattice::class::Class;
 
 /// Whether Katz's product over the integers of a report is its series, in each class of a degree up to the greatest of the report, at
-/// each exponent through its last one. A class that neither the series nor the integers name counts as 0.
+/// each exponent through its last one. A class that the series don't name has the series 0, also where the integers name it.
 pub fn verify(alloc: Global, report: &Report) -> Result<Verdict, CertFault>
     requires checkable { IsCheckable report.now.series report.now.integers }
     ensures verdict { IfOk result (IsVerdict report.now.series report.now.integers.integers) }

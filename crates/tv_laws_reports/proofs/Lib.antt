@@ -4,3 +4,7 @@ mod Firsts
 mod Told
 mod Fitting
 mod Short
+mod ToldSeries
+mod ToldFamilies
+mod ToldIntegers
+mod Verified

@@ -16,19 +16,19 @@ use Rattle.tv_spec_text.specs.Reports.{Term, Rises}
 use Rattle.tv_spec_text.specs.Lines.{IsNumber}
 use Rattle.tv_report_reader.specs.Told.{value_at, lowest, HasExponent, AreSeriesTerms, Cursor, series_of}
 
-value-here : (t : Term) (ts : List Term) (n : ℤ) → t.exponent ≡ n → value_at (t ∷ ts) n ≡ t.coefficient
+pub value-here : (t : Term) (ts : List Term) (n : ℤ) → t.exponent ≡ n → value_at (t ∷ ts) n ≡ t.coefficient
 unfolding value_at
 value-here t ts n e = rw ((Decides-int_eq t.exponent n).1 e) refl
 
-value-apart : (t : Term) (ts : List Term) (n : ℤ) → (t.exponent ≡ n → ⊥) → value_at (t ∷ ts) n ≡ value_at ts n
+pub value-apart : (t : Term) (ts : List Term) (n : ℤ) → (t.exponent ≡ n → ⊥) → value_at (t ∷ ts) n ≡ value_at ts n
 unfolding value_at
 value-apart t ts n apart = bool_cases (int_eq t.exponent n) (λ h. absurd (apart ((Decides-int_eq t.exponent n).0 h))) (λ h. rw h refl)
 
-value-nil : (n : ℤ) → value_at [] n ≡ pos 0
+pub value-nil : (n : ℤ) → value_at [] n ≡ pos 0
 unfolding value_at
 value-nil n = refl
 
-value-none : (ts : List Term) (n : ℤ) → AllByRecursion (λ (t : Term). (n +ℤ pos 1) ≤ℤ t.exponent) ts → value_at ts n ≡ pos 0
+pub value-none : (ts : List Term) (n : ℤ) → AllByRecursion (λ (t : Term). (n +ℤ pos 1) ≤ℤ t.exponent) ts → value_at ts n ≡ pos 0
 value-none [] n all = value-nil n
 value-none (t ∷ ts) n all = let h = all.0 in value-apart t ts n (λ e. omega (arith, ints)) ∙ value-none ts n all.1
 

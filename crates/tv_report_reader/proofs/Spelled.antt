@@ -6,7 +6,7 @@ use Rattle.tv_lemmas.proofs.Members.{all-onto}
 use Rattle.tv_lattice.specs.Classes.{IsEntry, IsEntries}
 use Rattle.tv_spec_plane.specs.Web.{Web}
 use Rattle.tv_spec_boxes.specs.Assignments.{zeros}
-use Rattle.tv_spec_text.specs.Lines.{Line, IsNumber, IsCount, spelled}
+use Rattle.tv_spec_text.specs.Lines.{Line, IsNumber, spelled}
 use Rattle.tv_spec_text.specs.Files.{Spells, file_lines, heights_line}
 use Rattle.tv_spec_text.specs.Reports.{Term, term_line}
 use Rattle.tv_text.proofs.Entries.{number_is_entry}

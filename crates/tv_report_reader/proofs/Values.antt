@@ -1,5 +1,5 @@
 -- Worked values: the series of three terms with a gap, of none, and the integers of two classes.
-use Rattle.std.specs.Prelude.{◌≡◌, ℤ, pos, negsuc, List, [], ◌∷◌, refl}
+use Rattle.std.specs.Prelude.{◌≡◌, ℤ, pos, negsuc, [], ◌∷◌, refl}
 use Rattle.tv_laws_series.specs.Terms.{terms, above, listed}
 use Rattle.tv_spec_text.specs.Reports.{Term}
 use Rattle.tv_spec_reports.specs.IntegerLines.{GenusValue}

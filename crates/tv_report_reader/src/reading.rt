@@ -20,7 +20,9 @@ use tv_text::lines::{lines_of, words_of};
 /// The report that the bytes spell: its heights, degree and last exponent, the series of each of its classes, known through that
 /// exponent and 0 where no term says otherwise, and its integers. The bytes are refused where they are more than
 /// `MOST_REPORT_BYTES`, else at the first line with which no report goes on (after the last line, where they end too early).
-/// Want of memory may come at any time after the bytes are counted; it comes where a class spans more than `MOST_EXPONENTS`.
+/// Want of memory may come at any time after the bytes are counted. It comes where a class spans more than `MOST_EXPONENTS` (2^20)
+/// exponents, all classes together span more than `MOST_COEFFICIENTS` (2^24), or a class has more than `MOST_GENERA` (4,096)
+/// integers.
 pub fn read_report(alloc: Global, bytes: &[u8]) -> Result<Report, ReportError>
     ensures { MatchResult result (IsReport bytes.now) (IsReportFault bytes.now) }
 {
