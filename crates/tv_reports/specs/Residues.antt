@@ -5,6 +5,8 @@
 --                               below the lowest exponent and beyond the last
 -- residue_term x y n         == the exponent n with both coefficients there
 -- has_remainder t            == not both remainders are 0
+-- told n r s                 == the term of the exponent n with the remainders r and s, and none where both are 0
+-- told_at x y n              == that of the exponent n with both coefficients there
 -- lesser_low x y             == the lesser of the lowest exponents
 -- residue_terms_below x y n  == the terms of the exponents from the lesser low on that are less than n
 -- residue_section hs n (x, y) == the class of the row x with its degree, and the terms of both through n
@@ -14,14 +16,18 @@
 --                               of each function whose remainders are the coefficients
 -- ResidueSectionsTell        == in two families of remainders with the same heights, classes and last exponent the section of each
 --                               pair of rows tells it
-use Rattle.std.specs.Prelude.{◌≡◌, ℕ, ℤ, pos, ◌+ℤ◌, ◌≤ℤ◌, Bool, ◌&&◌, ◌==◌, not, List, map, filter}
+-- residues_head w hs d n     == the lines before the sections
+use Rattle.std.specs.Prelude.{◌≡◌, ℕ, ℤ, pos, ◌+ℤ◌, ◌≤ℤ◌, Bool, cond, ◌&&◌, ◌==◌, not, List, [], ◌∷◌, map, filter}
 use Rattle.std.specs.Int.{int_min}
 use Rattle.std.specs.List.{AllByRecursion, range_with_len, zip}
 use Rattle.tv_ring.specs.Residue.{residues, IsRemainder}
 use Rattle.tv_laws_series.specs.Terms.{Terms, above}
 use Rattle.tv_spec_plane.specs.Web.{degree_of}
 use Rattle.tv_spec_series.specs.Families.{Row, Family, classes, coefficient, IsFamily}
-use Rattle.tv_spec_reports.specs.Residues.{first_modulus, second_modulus, remainder, ResidueTerm, ResidueSection, AreResidueTerms}
+use Rattle.tv_spec_text.specs.Files.{heights_line}
+use Rattle.tv_spec_text.specs.Lines.{Word, Line}
+use Rattle.tv_spec_reports.specs.Residues.{first_modulus, second_modulus, remainder, ResidueTerm, ResidueSection, AreResidueTerms, residues_line}
+use Rattle.tv_text.specs.Sections.{degree_line, upto_line}
 
 abbrev pub first_coefficient : Terms ℕ → ℤ → ℕ
 first_coefficient x n = coefficient (residues first_modulus) x n
@@ -34,6 +40,12 @@ residue_term x y n = record { exponent = n; first = first_coefficient x n; secon
 
 abbrev pub has_remainder : ResidueTerm → Bool
 has_remainder t = not (t.first == 0 && t.second == 0)
+
+abbrev pub told : ℤ → ℕ → ℕ → List ResidueTerm
+told n r s = let t : ResidueTerm = record { exponent = n; first = r; second = s } in cond (has_remainder t) (t ∷ []) []
+
+abbrev pub told_at : Terms ℕ → Terms ℕ → ℤ → List ResidueTerm
+told_at x y n = told n (first_coefficient x n) (second_coefficient y n)
 
 abbrev pub lesser_low : Terms ℕ → Terms ℕ → ℤ
 lesser_low x y = int_min x.low y.low
@@ -68,3 +80,6 @@ ResidueSectionsTell =
     → IsFamily (IsRemainder second_modulus) (residues second_modulus) g
     → f.heights ≡ g.heights → classes f.rows ≡ classes g.rows → f.upto ≡ g.upto
     → AllByRecursion (λ rows. TellsResidues f rows (residue_section f.heights f.upto rows)) (zip f.rows g.rows)
+
+abbrev pub residues_head : Word → List ℤ → ℤ → ℤ → List Line
+residues_head w hs d n = residues_line w ∷ heights_line hs ∷ degree_line d ∷ upto_line n ∷ []
