@@ -23,7 +23,7 @@ use Rattle.tv_spec_reports.specs.IntegerLines.{GvSection, GenusValue as Spoken, 
 use Rattle.tv_spec_reports.specs.IntegersReport.{integers_of, TellsClass}
 use Rattle.tv_integers.specs.declared.genus_value.GenusValue.{GenusValue}
 use Rattle.tv_integers.specs.Kept.{AreKept, values_of}
-use Rattle.tv_text.proofs.Printing.{flat_map-step, flat_map-whole}
+use Rattle.tv_reports.proofs.Printing.{piece_more, sections-whole}
 use Rattle.tv_reports.specs.Sections.{section_of, TellsRow}
 use Rattle.tv_reports.specs.IntegerSections.{gv_section, gv_sections, value_line, entry_lines, IsSmallValue, IsSmallEntry, TextTells}
 use Rattle.tv_reports.proofs.Sections.{sections_tell}
@@ -85,18 +85,11 @@ entry_told old now kept_under hs is d v s gs kept degree values e =
     ap (λ z. entry_lines z v s gs) degree ∙ ap (λ ls. section_lines (section_of hs (row v s)) ++ map value_line ls) values ∙ ap (λ ls. section_lines (section_of hs (row v s)) ++ ls) (value_lines kept_under v is kept) in
     e ∙ ap (λ ls. old ++ flat_map line_text ls) lines
 
-pub two_parts : (xs ys : List Line) (old now next : List ℕ) → now ≡ old ++ flat_map line_text xs → next ≡ now ++ flat_map line_text ys → next ≡ old ++ flat_map line_text (xs ++ ys)
-two_parts xs ys old now next e n =
-    n ∙ ap (λ t. t ++ flat_map line_text ys) e ∙ append_assoc old (flat_map line_text xs) (flat_map line_text ys) ∙ ap (λ t. old ++ t) (sym (flat_map-append line_text xs ys))
-
 pub one_more : (hs : List ℤ) (is : List Integer) (rows : List (Row ℤ)) (old now next : List ℕ) (k : ℕ) (x : Row ℤ) → slice_get rows k ≡ Some x → now ≡ old ++ flat_map (row_text hs is) (take k rows) → next ≡ now ++ row_text hs is x → next ≡ old ++ flat_map (row_text hs is) (take (k + 1) rows)
-one_more hs is rows old now next k x found e n =
-    flat_map-step (row_text hs is) old now next rows k x (slice_get_within rows k x found) e (n ∙ ap (λ y. now ++ row_text hs is y) (sym (get_or_from_slice_get rows k x x found)))
+one_more hs is rows old now next k x = piece_more (row_text hs is) rows old now next k x
 
 pub all_rows : (hs : List ℤ) (is : List Integer) (rows : List (Row ℤ)) (old now : List ℕ) (k : ℕ) → length rows ≤ k → now ≡ old ++ flat_map (row_text hs is) (take k rows) → now ≡ old ++ flat_map line_text (flat_map gv_section_lines (map (gv_section hs is) rows))
-all_rows hs is rows old now k h e =
-    flat_map-whole (row_text hs is) old now rows k h e
-    ∙ ap (λ t. old ++ t) (sym (flat_map-flat_map line_text (λ x. gv_section_lines (gv_section hs is x)) rows) ∙ ap (flat_map line_text) (sym (flat_map-map gv_section_lines (gv_section hs is) rows)))
+all_rows hs is rows old now k = sections-whole gv_section_lines (gv_section hs is) rows old now k
 
 -- ---- how large they are
 

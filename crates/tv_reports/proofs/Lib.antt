@@ -4,3 +4,6 @@ pub mod Remainders
 pub mod IntegerSections
 mod Configs
 mod Counts
+pub mod LeastRemainders
+pub mod ResidueTerms
+pub mod ResidueLines

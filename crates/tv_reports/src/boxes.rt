@@ -69,7 +69,12 @@ fn put_class(
 }
 
 // The line of a class, as that of a section without terms.
-fn put_plain(alloc: Global, text: &mut String, degree: i64, class: &Class) -> Result<(), AllocError>
+pub(crate) fn put_plain(
+    alloc: Global,
+    text: &mut String,
+    degree: i64,
+    class: &Class,
+) -> Result<(), AllocError>
     ensures { OnOk result (string_bytes text.new ≡ string_bytes text.old ++ line_text (class_line (plain_class degree class.now))) }
 {
     let entries = Vec::from_slice(alloc, class.entries())?;

@@ -6,6 +6,7 @@ pub mod boxes;
 pub mod check;
 pub mod gv;
 pub mod laws;
+pub mod residues;
 pub mod series;
 pub mod summary;
 #[cfg(test)]

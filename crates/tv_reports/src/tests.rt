@@ -149,7 +149,7 @@ end
 ";
 
 // The vector of two small entries.
-fn class_of(alloc: Global, first: i64, second: i64) -> Result<Class, Fail> {
+pub(crate) fn class_of(alloc: Global, first: i64, second: i64) -> Result<Class, Fail> {
     if -9 <= first && first <= 9 && -9 <= second && second <= 9 {
         let mut entries = Vec::new(alloc);
         entries.push(first)?;
