@@ -1,5 +1,5 @@
 -- The report of a full family is the report of the full series.
-use Rattle.std.proofs.Common.{◌≡◌, ℕ, ℤ, pos, ◌≤ℤ◌, List, [], ◌∷◌, map, Result, Ok, Err, sym, ap, ◌∙◌, subst}
+use Rattle.std.proofs.Common.{◌≡◌, ℕ, ℤ, pos, ◌≤ℤ◌, List, [], ◌∷◌, map, Result, Ok, Err, inl, sym, ap, ◌∙◌, subst}
 use Rattle.std.specs.Prelude.{codes}
 use Rattle.std.specs.List.{AllByRecursion}
 use Rattle.tv_ring.specs.Whole.{wholes}
@@ -48,5 +48,5 @@ full_report w d n f text full printed = record {
 }
 
 pub full_carried_out : (w : Web) (d : ℕ) (n : ℤ) (f : Family ℤ) (r : Result Answer Failure) → IsFull wholes w (no_legs w) d n f → Prints Full f r → IsCarriedOut (Series Full d n) w r
-full_carried_out w d n f (Ok a) full h = subst (λ s. CarriesOut (Series Full d n) w s a.text.items) (sym h.0) (full_report w d n f a.text.items full h.1)
+full_carried_out w d n f (Ok a) full h = subst (λ s. CarriesOut (Series Full d n) w s a.text.items) (sym h.0) (inl (full_report w d n f a.text.items full h.1))
 full_carried_out w d n f (Err e) full h = h

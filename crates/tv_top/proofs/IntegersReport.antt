@@ -112,7 +112,7 @@ module _ (w : Web) (d : ℕ) (n : ℤ) (f : Family ℤ) (suited : IsSuited w) (d
   }
 
   pub majorant_told : (v : List ℤ) (m : ℤ) (r : Result Answer Failure) → IsTooWide f v m → Says r Wide (majorant_line m v) → IsCarriedOut (Gv d n) w r
-  majorant_told v m (Ok a) wide h = subst (λ s. CarriesOut (Gv d n) w s a.text.items) (sym h.0) (majorant_line m v, inr (v, (m, beyond v m wide, refl)), h.1)
+  majorant_told v m (Ok a) wide h = subst (λ s. CarriesOut (Gv d n) w s a.text.items) (sym h.0) (majorant_line m v, inr (inr (v, (m, beyond v m wide, refl))), h.1)
   majorant_told v m (Err e) wide h = h
 
   difference : (v : List ℤ) (m x y : ℤ) → IsUnequal f v m x y → IsPrintable x → IsPrintable y → IsFirstDifference w d n v m x y
@@ -136,9 +136,9 @@ module _ (w : Web) (d : ℕ) (n : ℤ) (f : Family ℤ) (suited : IsSuited w) (d
 -- ---- what is told where there are no reduced series
 
 pub gv_crowd_told : (w : Web) (d : ℕ) (n : ℤ) (v : List ℤ) (r : Result Answer Failure) → IsCrowded w d n v → Says r Wide (crowd_line v) → IsCarriedOut (Gv d n) w r
-gv_crowd_told w d n v (Ok a) crowd h = subst (λ s. CarriesOut (Gv d n) w s a.text.items) (sym h.0) (crowd_line v, inl (inl (v, crowd, refl)), h.1)
+gv_crowd_told w d n v (Ok a) crowd h = subst (λ s. CarriesOut (Gv d n) w s a.text.items) (sym h.0) (crowd_line v, inl (v, crowd, refl), h.1)
 gv_crowd_told w d n v (Err e) crowd h = h
 
 pub gv_spread_told : (w : Web) (d : ℕ) (n : ℤ) (v : List ℤ) (m : ℤ) (r : Result Answer Failure) → IsSpreadOut w d n v m → Says r Wide (spread_line m v) → IsCarriedOut (Gv d n) w r
-gv_spread_told w d n v m (Ok a) out h = subst (λ s. CarriesOut (Gv d n) w s a.text.items) (sym h.0) (spread_line m v, inl (inr (v, (m, out, refl))), h.1)
+gv_spread_told w d n v m (Ok a) out h = subst (λ s. CarriesOut (Gv d n) w s a.text.items) (sym h.0) (spread_line m v, inr (inl (v, (m, out, refl))), h.1)
 gv_spread_told w d n v m (Err e) out h = h

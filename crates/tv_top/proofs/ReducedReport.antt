@@ -1,5 +1,5 @@
 -- The report of a reduced family is the report of the reduced series.
-use Rattle.std.proofs.Common.{◌≡◌, ℕ, ℤ, pos, ◌≤ℤ◌, List, [], ◌∷◌, map, Result, Ok, Err, sym, ap, ◌∙◌, subst}
+use Rattle.std.proofs.Common.{◌≡◌, ℕ, ℤ, pos, ◌≤ℤ◌, List, [], ◌∷◌, map, Result, Ok, Err, inl, sym, ap, ◌∙◌, subst}
 use Rattle.std.specs.Prelude.{codes}
 use Rattle.std.specs.List.{AllByRecursion}
 use Rattle.tv_ring.specs.Whole.{wholes}
@@ -50,5 +50,5 @@ reduced_report w d n f text reduced printed = record {
 }
 
 pub reduced_carried_out : (w : Web) (d : ℕ) (n : ℤ) (f : Family ℤ) (r : Result Answer Failure) → IsReducedFamily wholes w (no_legs w) d n f → Prints Reduced f r → IsCarriedOut (Series Reduced d n) w r
-reduced_carried_out w d n f (Ok a) reduced h = subst (λ s. CarriesOut (Series Reduced d n) w s a.text.items) (sym h.0) (reduced_report w d n f a.text.items reduced h.1)
+reduced_carried_out w d n f (Ok a) reduced h = subst (λ s. CarriesOut (Series Reduced d n) w s a.text.items) (sym h.0) (inl (reduced_report w d n f a.text.items reduced h.1))
 reduced_carried_out w d n f (Err e) reduced h = h

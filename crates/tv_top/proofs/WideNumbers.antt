@@ -52,14 +52,6 @@ crowded w d n v graded h =
     let some : 0 < crowd w (no_legs w) d n v = omega arith in
     record { class = crowd-class w d n v graded some; beyond = omega arith }
 
-pub crowd_told : (w : Web) (d : ℕ) (n : ℤ) (v : List ℤ) (r : Result Answer Failure) → IsCrowded w d n v → Says r Wide (crowd_line v) → IsCarriedOut (Series Full d n) w r
-crowd_told w d n v (Ok a) crowd h = subst (λ s. CarriesOut (Series Full d n) w s a.text.items) (sym h.0) (crowd_line v, (v, crowd, refl), h.1)
-crowd_told w d n v (Err e) crowd h = h
-
-pub reduced_crowd_told : (w : Web) (d : ℕ) (n : ℤ) (v : List ℤ) (r : Result Answer Failure) → IsCrowded w d n v → Says r Wide (crowd_line v) → IsCarriedOut (Series Reduced d n) w r
-reduced_crowd_told w d n v (Ok a) crowd h = subst (λ s. CarriesOut (Series Reduced d n) w s a.text.items) (sym h.0) (crowd_line v, inl (v, crowd, refl), h.1)
-reduced_crowd_told w d n v (Err e) crowd h = h
-
 pub summary_crowd_told : (k d : ℕ) (n : ℤ) (v : List ℤ) (r : Result Answer Failure) → IsCrowded (grid k) d n v → Says r Wide (crowd_line v) → IsCarriedOut (Summary k d n) (grid k) r
 summary_crowd_told k d n v (Ok a) crowd h = subst (λ s. CarriesOut (Summary k d n) (grid k) s a.text.items) (sym h.0) (crowd_line v, (v, crowd, refl), h.1)
 summary_crowd_told k d n v (Err e) crowd h = h
@@ -71,7 +63,3 @@ spread w d n v m h = record { class = h.class; number = h.number; spread = h.spr
   where
     once : (k : ℕ) → limit < k * 1 → 2 ^ 127 - 1 < k
     once k h = omega arith
-
-pub spread_told : (w : Web) (d : ℕ) (n : ℤ) (v : List ℤ) (m : ℤ) (r : Result Answer Failure) → IsSpreadOut w d n v m → Says r Wide (spread_line m v) → IsCarriedOut (Series Reduced d n) w r
-spread_told w d n v m (Ok a) out h = subst (λ s. CarriesOut (Series Reduced d n) w s a.text.items) (sym h.0) (spread_line m v, inr (v, (m, out, refl)), h.1)
-spread_told w d n v m (Err e) out h = h

@@ -12,3 +12,4 @@ pub mod Replies
 pub mod Listings
 pub mod Completeness
 pub mod Laws
+pub mod Residues

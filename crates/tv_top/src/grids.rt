@@ -7,8 +7,8 @@ ghost use Rattle.tv_top.specs.Replies.{IsCarriedOut, Summarizes};
 
 use crate::acceptance::web_of;
 use crate::answer::{Answer, Failure};
-use crate::series::too_crowded;
 use crate::status::Status;
+use crate::wide::too_crowded;
 use std::alloc::Global;
 use tv_degrees::grade::GradedWeb;
 use tv_glue::{GlueFault, full};

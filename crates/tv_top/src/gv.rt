@@ -5,13 +5,13 @@ ghost use Rattle.tv_ring.specs.Whole.{wholes};
 ghost use Rattle.tv_spec_boxes.specs.Assignments.{no_legs};
 ghost use Rattle.tv_spec_series.specs.ReducedFamilies.{IsReducedFamily};
 ghost use Rattle.tv_gv.specs.Extracted.{IsExtractable, HasIntegers};
-ghost use Rattle.tv_text.specs.Refusals.{majorant_line, differs_line};
+ghost use Rattle.tv_text.specs.Refusals.{differs_line};
 ghost use Rattle.tv_words.specs.Commands.{IsDegree, IsIntegersOrder};
 ghost use Rattle.tv_top.specs.Replies.{IsCarriedOut, Says, PrintsIntegers};
 
 use crate::answer::{Answer, Failure, refuse};
-use crate::series::{spread_out, too_crowded};
 use crate::status::Status;
+use crate::wide::{beyond_majorant, spread_out, too_crowded};
 use std::alloc::Global;
 use tv_degrees::grade::GradedWeb;
 use tv_graded::Graded;
@@ -21,7 +21,7 @@ use tv_lattice::class::Class;
 use tv_reduced::{ReducedFault, reduced};
 use tv_reports::gv::print_gv;
 use tv_ring::Whole;
-use tv_text::refusal::{Refusal, WideNumber};
+use tv_text::refusal::Refusal;
 use tv_words::Command;
 
 /// The report of the reduced series in degrees through `degree` and with exponents through `upto`, and of their integers, or why
@@ -86,17 +86,6 @@ fn print(alloc: Global, series: Graded<Whole>, integers: Integers) -> Result<Ans
         }),
         Err(_) => Err(Failure::Memory),
     }
-}
-
-/// The refusal of a majorant that is too wide.
-pub(crate) fn beyond_majorant(alloc: Global, class: Class, exponent: i64) -> Result<Answer, Failure>
-    ensures { Says result Status.Wide (majorant_line exponent class) }
-{
-    refuse(
-        alloc,
-        Status::Wide,
-        &Refusal::Wide(WideNumber::Majorant { class, exponent }),
-    )
 }
 
 /// The refusal of series and a product that differ.

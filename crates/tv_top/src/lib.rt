@@ -11,6 +11,7 @@ mod gv;
 pub mod laws;
 mod pieces;
 mod reply;
+mod residues;
 mod running;
 mod series;
 mod status;
@@ -18,6 +19,7 @@ mod telling;
 #[cfg(test)]
 mod tests;
 mod verification;
+mod wide;
 
 pub use acceptance::accept;
 pub use running::run;

@@ -1,26 +1,24 @@
-//! The answer of the command `series`: the report of the series, or the class whose numbers are too large. How series are
-//! computed and printed is not looked at here.
+//! The answer of the command `series`: the report of the series in whole numbers, and by residues where those are too wide on
+//! the way. How series are computed and printed is not looked at here.
 
-ghost use Rattle.tv_text.specs.Refusals.{crowd_line, spread_line};
 ghost use Rattle.tv_words.specs.Commands.{IsDegree, IsOrder};
-ghost use Rattle.tv_top.specs.Replies.{IsCarriedOut, Prints, Says};
+ghost use Rattle.tv_top.specs.Replies.{IsCarriedOut, Prints};
 
-use crate::answer::{Answer, Failure, refuse};
+use crate::answer::{Answer, Failure};
+use crate::residues::by_residues;
 use crate::status::Status;
 use std::alloc::Global;
 use tv_degrees::grade::GradedWeb;
 use tv_glue::{GlueFault, full};
 use tv_graded::Graded;
-use tv_lattice::class::Class;
 use tv_reduced::{ReducedFault, reduced};
 use tv_reports::series::print_series;
 use tv_ring::Whole;
-use tv_text::refusal::{Refusal, WideNumber};
 use tv_text::series::Kind;
 use tv_words::Command;
 
-/// The report of the series of that kind, in degrees through `degree` and with exponents through `upto`, or why there is
-/// none.
+/// The report of the series of that kind, in degrees through `degree` and with exponents through `upto`: in whole numbers, or by
+/// residues where a number on the way to those is too wide.
 pub(crate) fn series_answer(
     alloc: Global,
     web: &GradedWeb,
@@ -46,7 +44,7 @@ fn full_answer(alloc: Global, web: &GradedWeb, degree: u32, upto: i64) -> Result
     web.known();
     match full::<Whole>(alloc, web, degree, upto) {
         Ok(series) => print(alloc, Kind::Full, &series),
-        Err(GlueFault::Wide(class)) => too_crowded(alloc, class),
+        Err(GlueFault::Wide(_)) => by_residues(alloc, web, Kind::Full, degree, upto),
         Err(GlueFault::Memory) => Err(Failure::Memory),
     }
 }
@@ -59,8 +57,8 @@ fn reduced_answer(alloc: Global, web: &GradedWeb, degree: u32, upto: i64) -> Res
     web.known();
     match reduced::<Whole>(alloc, web, degree, upto) {
         Ok(series) => print(alloc, Kind::Reduced, &series),
-        Err(ReducedFault::Crowd(class)) => too_crowded(alloc, class),
-        Err(ReducedFault::Spread { class, exponent }) => spread_out(alloc, class, exponent),
+        Err(ReducedFault::Crowd(_)) => by_residues(alloc, web, Kind::Reduced, degree, upto),
+        Err(ReducedFault::Spread { .. }) => by_residues(alloc, web, Kind::Reduced, degree, upto),
         Err(ReducedFault::Memory) => Err(Failure::Memory),
     }
 }
@@ -76,26 +74,4 @@ fn print(alloc: Global, kind: Kind, series: &Graded<Whole>) -> Result<Answer, Fa
         }),
         Err(_) => Err(Failure::Memory),
     }
-}
-
-/// The refusal of a class that has too many configurations.
-pub(crate) fn too_crowded(alloc: Global, class: Class) -> Result<Answer, Failure>
-    ensures { Says result Status.Wide (crowd_line class) }
-{
-    refuse(
-        alloc,
-        Status::Wide,
-        &Refusal::Wide(WideNumber::Crowd(class)),
-    )
-}
-
-/// The refusal of a class and an exponent at which the numbers that meet in the division are too large.
-pub(crate) fn spread_out(alloc: Global, class: Class, exponent: i64) -> Result<Answer, Failure>
-    ensures { Says result Status.Wide (spread_line exponent class) }
-{
-    refuse(
-        alloc,
-        Status::Wide,
-        &Refusal::Wide(WideNumber::Spread { class, exponent }),
-    )
 }

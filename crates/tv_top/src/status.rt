@@ -12,7 +12,7 @@ pub enum Status {
     Words,
     /// The file, or the report, is refused.
     File,
-    /// A number that the command needs exceeds 2^127 - 1.
+    /// A number that the command needs exceeds 2^127 - 1. A series is told by residues there, and never ends so.
     Wide,
     /// A series and the product over its integers differ.
     Differs,

@@ -12,8 +12,9 @@ ghost use Rattle.tv_top.specs.Verification.{report_fault_line};
 ghost use Rattle.tv_top.specs.Replies.{HasVerdict, IsChecked, Replies, Says, SaysText};
 
 use crate::answer::{Answer, Failure, Outcome, in_text};
-use crate::gv::{beyond_majorant, differs};
+use crate::gv::differs;
 use crate::status::Status;
+use crate::wide::beyond_majorant;
 use std::alloc::{AllocError, Global};
 use tv_cert::{CertFault, Verdict, verify};
 use tv_integers::Report;
