@@ -1,5 +1,5 @@
 -- A report that bytes spell is one that can be checked.
-use Rattle.std.proofs.Common.{◌≡◌, ℕ, zero, suc, ◌<◌, ◌≤◌, ◌^◌, ℤ, pos, negsuc, ◌+ℤ◌, ◌*ℤ◌, ◌≤ℤ◌, unsigned_abs, ◌⊎◌, Bool, true, false, if◌then◌else◌, List, [], ◌∷◌, ◌++◌, length, map, Option, Some, None, inl, inr, refl, sym, ap, ◌∙◌, subst, arith}
+use Rattle.std.proofs.Common.{◌≡◌, ℕ, zero, suc, ◌<◌, ◌≤◌, ℤ, pos, negsuc, ◌+ℤ◌, ◌*ℤ◌, ◌≤ℤ◌, unsigned_abs, ◌⊎◌, false, if◌then◌else◌, List, [], ◌∷◌, length, map, Some, inl, inr, refl, sym, ap, ◌∙◌, subst, arith}
 use Rattle.std.proofs.lemmas.Int.{ints}
 use Rattle.std.specs.List.{AllByRecursion}
 use Rattle.std.specs.Ordering.{int_eq}
@@ -12,21 +12,20 @@ use Rattle.tv_laws_series.specs.Terms.{above, listed}
 use Rattle.tv_laws_series.proofs.Listed.{at-listed}
 use Rattle.tv_laws_series.proofs.Coefficients.{coefficient_at}
 use Rattle.tv_spec_plane.specs.Web.{degree_of}
-use Rattle.tv_spec_boxes.specs.Assignments.{zeros, same_vector}
+use Rattle.tv_spec_boxes.specs.Assignments.{zeros}
 use Rattle.tv_spec_boxes.proofs.OneCornerCrowd.{degree_zero}
 use Rattle.tv_spec_text.specs.Lines.{IsNumber}
 use Rattle.tv_spec_text.specs.Reports.{Term}
-use Rattle.tv_spec_series.specs.Families.{Family, Row, classes, find, coefficient, coefficient_of, series_coefficient}
+use Rattle.tv_spec_series.specs.Families.{Family, classes, find, coefficient, coefficient_of, series_coefficient}
 use Rattle.tv_spec_katz.specs.Katz.{Integer}
 use Rattle.tv_spec_katz.specs.Relations.{IsNormalized, IsPositiveClass}
-use Rattle.tv_integers.specs.Kept.{Kept}
 use Rattle.tv_integers.specs.declared.report.Report.{Report}
 use Rattle.tv_gv.specs.Extracted.{HasSmallEntries, IsExtractable}
 use Rattle.tv_cert.specs.Verified.{IsCheckable}
 use Rattle.tv_spec_reports.specs.IntegerLines.{GenusValue, GvSection}
 use Rattle.tv_spec_reports.specs.Grammar.{GvData, FirstSection, SectionFits, SectionsFit, GvFits}
 use Rattle.tv_laws_families.proofs.ZeroClass.{same-zeros}
-use Rattle.tv_report_reader.specs.Told.{value_at, series_of, row_of, family_of, integer_of, section_integers, integers_of, IsTold}
+use Rattle.tv_report_reader.specs.Told.{value_at, series_of, row_of, family_of, integer_of, section_integers, integers_of}
 use Rattle.tv_report_reader.specs.Faults.{IsReport}
 
 -- ---- class zero

@@ -5,7 +5,7 @@ use Rattle.tv_lattice.specs.declared.fault.ReportFault.{ReportFault}
 use Rattle.tv_lattice.specs.declared.fault.ReportFault.TheVariants.{TooLong}
 use Rattle.tv_integers.specs.declared.report.Report.{Report}
 use Rattle.tv_cert.specs.Verified.{IsVerified, IsFirstDifferenceOf, IsTooWideReport}
-use Rattle.tv_spec_text.specs.Lines.{Word, line_text}
+use Rattle.tv_spec_text.specs.Lines.{Word}
 use Rattle.tv_spec_text.specs.Reports.{IsPrintable}
 use Rattle.tv_spec_reports.specs.Verdicts.{verdict_text}
 use Rattle.tv_text.specs.Refusals.{majorant_line, differs_line}
@@ -14,14 +14,15 @@ use Rattle.tv_report_reader.specs.declared.fault.ReportError.TheVariants.{Fault}
 use Rattle.tv_report_reader.specs.Faults.{IsReport, IsReportFault}
 use Rattle.tv_words.specs.Commands.{Asks}
 use Rattle.tv_top.specs.Answers.{Change, Gave, Deserves}
-use Rattle.tv_top.specs.Verification.{report_fault_line, IsVerdictOn, IsOnReport}
-use Rattle.tv_top.specs.Replies.{HasVerdict, Checks, IsChecked, in_text, Replies, Says, SaysText, Fails}
+use Rattle.tv_top.specs.Verification.{report_fault_line, IsVerdictOn}
+use Rattle.tv_answers.specs.Carried.{in_text, Says, SaysText}
+use Rattle.tv_top.specs.Replies.{HasVerdict, Checks, IsChecked, Replies, Fails}
 use Rattle.tv_words.specs.declared.command.Command.TheVariants.{Verify}
-use Rattle.tv_top.specs.declared.answer.Answer.{Answer}
-use Rattle.tv_top.specs.declared.answer.Failure.{Failure}
-use Rattle.tv_top.specs.declared.answer.Outcome.{Outcome}
-use Rattle.tv_top.specs.declared.status.Status.{Status}
-use Rattle.tv_top.specs.declared.status.Status.TheVariants.{Done, Words, File, Wide, Differs, Memory, ReadFault, WriteFault}
+use Rattle.tv_answers.specs.declared.answer.Answer.{Answer}
+use Rattle.tv_answers.specs.declared.answer.Failure.{Failure}
+use Rattle.tv_answers.specs.declared.answer.Outcome.{Outcome}
+use Rattle.tv_answers.specs.declared.status.Status.{Status}
+use Rattle.tv_answers.specs.declared.status.Status.TheVariants.{Done, Words, File, Wide, Differs, Memory, ReadFault, WriteFault}
 
 -- what is said of a report
 

@@ -1,16 +1,5 @@
-pub mod Told
-pub mod FullReport
-pub mod ReducedReport
-pub mod ResidueReport
-pub mod WideNumbers
-pub mod IntegersReport
-pub mod SummaryReport
-pub mod Reading
 pub mod RejectedReply
 pub mod Checkable
 pub mod CheckedReply
 pub mod ToldPieces
 pub mod Completeness
-pub mod GridWebs
-pub mod Sound
-pub mod AcceptedSigns

@@ -6,30 +6,32 @@ use Rattle.tv_spec_text.specs.Lines.{Word, line_text}
 use Rattle.tv_spec_text.proofs.Places.{IsPlace-none}
 use Rattle.tv_lattice.specs.declared.fault.FileFault.{FileFault}
 use Rattle.tv_lattice.specs.declared.fault.FileFault.TheVariants.{TooLong}
-use Rattle.tv_top.specs.declared.answer.Failure.TheVariants.{Memory}
+use Rattle.tv_answers.specs.declared.answer.Failure.TheVariants.{Memory}
 use Rattle.tv_text.specs.Refusals.{fault_line}
 use Rattle.tv_outside.specs.Seen.{Seen}
 use Rattle.tv_outside.specs.Faults.{RoseOnce}
 use Rattle.tv_spec_reports.specs.Grids.{grid}
 use Rattle.tv_words.specs.Commands.{Subject, OfFile, OfGrid, OfReport, Asks, IsCommand, subject_of}
-use Rattle.tv_top.specs.Acceptance.{IsAccepted}
-use Rattle.tv_top.specs.Rejections.{FaultOf}
-use Rattle.tv_top.specs.Answers.{Change, Gave, IsOver, IsRead, most_bytes, Deserves, DeservesFile, DeservesRead, Reads, words_text, read_text}
-use Rattle.tv_top.specs.Replies.{CarriesOut, IsCarriedOut, Stands, IsAnswered, in_text, Judges, IsJudged, Replies, Says, Fails}
+use Rattle.tv_acceptance.specs.Acceptance.{IsAccepted}
+use Rattle.tv_acceptance.specs.Rejections.{FaultOf}
+use Rattle.tv_answers.specs.Texts.{words_text, read_text}
+use Rattle.tv_top.specs.Answers.{Change, Gave, IsOver, IsRead, most_bytes, Deserves, DeservesFile, DeservesRead, Reads}
+use Rattle.tv_answers.specs.Carried.{CarriesOut, IsCarriedOut, in_text, Says}
+use Rattle.tv_top.specs.Replies.{Stands, IsAnswered, Judges, IsJudged, Replies, Fails}
 use Rattle.tv_words.specs.Commands.{IsOrder}
-use Rattle.tv_top.specs.Reports.{IsUnsuited}
-use Rattle.tv_top.specs.Boxes.{Suits}
+use Rattle.tv_answers.specs.Reports.{IsUnsuited}
+use Rattle.tv_answers.specs.Boxes.{Suits}
 use Rattle.tv_spec_plane.specs.declared.limits.TheConstants.{MOST_BYTES}
 use Rattle.tv_words.specs.declared.command.Command.{Command}
-use Rattle.tv_top.specs.declared.answer.Answer.{Answer}
-use Rattle.tv_top.specs.declared.answer.Failure.{Failure}
-use Rattle.tv_top.specs.declared.answer.Listing.{Listing}
-use Rattle.tv_top.specs.declared.answer.Outcome.{Outcome}
-use Rattle.tv_top.specs.declared.answer.Outcome.TheVariants.{Text, Pieces}
+use Rattle.tv_answers.specs.declared.answer.Answer.{Answer}
+use Rattle.tv_answers.specs.declared.answer.Failure.{Failure}
+use Rattle.tv_answers.specs.declared.answer.Listing.{Listing}
+use Rattle.tv_answers.specs.declared.answer.Outcome.{Outcome}
+use Rattle.tv_answers.specs.declared.answer.Outcome.TheVariants.{Text, Pieces}
 use Rattle.tv_words.specs.declared.command.Command.TheVariants.{Boxes}
 use Rattle.tv_words.proofs.SameCommand.{same_command}
-use Rattle.tv_top.specs.declared.status.Status.{Status}
-use Rattle.tv_top.specs.declared.status.Status.TheVariants.{Done, Words, File, Wide, Differs, Memory as MemoryStatus, ReadFault, WriteFault}
+use Rattle.tv_answers.specs.declared.status.Status.{Status}
+use Rattle.tv_answers.specs.declared.status.Status.TheVariants.{Done, Words, File, Wide, Differs, Memory as MemoryStatus, ReadFault, WriteFault}
 
 rejected_reply : (ws : List Word) (io : Change) (fault : FileFault) (r : Result Answer Failure) (o : Result Outcome Failure) → o ≡ in_text r → io.after.faults ≡ io.before.faults → Says r File (fault_line fault)
     → ((text : List ℕ) → text ≡ line_text (fault_line fault) → DeservesFile ws io text) → Replies ws io o

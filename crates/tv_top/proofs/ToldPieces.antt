@@ -20,14 +20,15 @@ use Rattle.tv_text.proofs.Spellings.{same_number}
 use Rattle.tv_words.specs.Commands.{IsOrder}
 use Rattle.tv_words.specs.declared.command.TheConstants.{MIN_ORDER, MAX_ORDER}
 use Rattle.tv_words.proofs.Between.{between_is_number}
-use Rattle.tv_top.specs.Answers.{Change, Told, memory_text}
-use Rattle.tv_top.specs.Boxes.{Suits, first_lines}
-use Rattle.tv_top.specs.Replies.{CarriesOut}
+use Rattle.tv_answers.specs.Texts.{memory_text}
+use Rattle.tv_top.specs.Answers.{Change, Told}
+use Rattle.tv_answers.specs.Boxes.{Suits, first_lines}
+use Rattle.tv_answers.specs.Carried.{CarriesOut}
 use Rattle.tv_top.specs.Listings.{HasTold, rest_text, IsRest, Finishes, IsTold, TellsFirst, Steps}
 use Rattle.tv_top.specs.declared.pieces.Step.{Step}
 use Rattle.tv_words.specs.declared.command.Command.TheVariants.{Boxes}
-use Rattle.tv_top.specs.declared.status.Status.{Status}
-use Rattle.tv_top.specs.declared.status.Status.TheVariants.{Done, Words, File, Wide, Differs, Memory, ReadFault, WriteFault}
+use Rattle.tv_answers.specs.declared.status.Status.{Status}
+use Rattle.tv_answers.specs.declared.status.Status.TheVariants.{Done, Words, File, Wide, Differs, Memory, ReadFault, WriteFault}
 
 -- a result is one of two
 pub err_side : {T E : Type 0} (P Q : Type 0) (r : Result T E) → true ≡ is_err r → MatchResult r (λ x. P) (λ e. Q) → Q

@@ -1,13 +1,11 @@
 -- What a run answers: for each status what is deserved, and how the text was told.
 --
--- memory_text, read_text  == the texts of want of memory and of a failed read
 -- IsOver subject io w      == w is the web of the file that was read, which is accepted; or that of the grid, and nothing was
 --                             read; a report has no web
 -- IsRead subject           == it is read from the source: a file, or a report
 -- most_bytes subject       == the most bytes that it may have there
 -- IsOn ws io c w           == the words ask for the command c, and w is the web that it is about
 -- DeservesDone ws io text  == the text is the report of the command on that web
--- words_text k            == the text that names the place k of the words
 -- DeservesWords ws io text == the text names the place at which the words leave every word list
 -- DeservesClass ws io text == the words ask for what doesn't suit that web, and the text names the place of the words that shows it
 -- DeservesFile ws io text  == the command is about a file, and the text names the first check that it fails, of which all bytes
@@ -29,10 +27,10 @@
 --                             is seen as None, of which every statement on bytes holds; a run can't tell it from one that
 --                             does. Want of memory is deserved wherever no read failed; where the report is told piece by
 --                             piece, it may come in place of each piece
-use Rattle.std.specs.Prelude.{◌≡◌, ℕ, ◌+◌, ◌≤◌, ◌⊎◌, pos, List, [], ◌∷◌, ◌++◌, length, take, codes, ⊤}
+use Rattle.std.specs.Prelude.{◌≡◌, ℕ, ◌+◌, ◌≤◌, ◌⊎◌, List, ◌++◌, length, take, ⊤}
 use Rattle.std.specs.Io.KnownBytes.{Appends, Consumes, IsAtEnd}
 use Rattle.tv_spec_plane.specs.Web.{Web}
-use Rattle.tv_spec_text.specs.Lines.{Word, Line, line_text, spelled}
+use Rattle.tv_spec_text.specs.Lines.{Word, Line, line_text}
 use Rattle.tv_spec_text.specs.Places.{IsPlace}
 use Rattle.tv_lattice.specs.declared.fault.FileFault.{FileFault}
 use Rattle.tv_spec_reports.specs.Grids.{grid}
@@ -40,25 +38,17 @@ use Rattle.tv_text.specs.Refusals.{fault_line}
 use Rattle.tv_outside.specs.Faults.{RoseOnce}
 use Rattle.tv_outside.specs.Writing.{GivesAll, GivesPart}
 use Rattle.tv_words.specs.Commands.{Subject, OfFile, OfGrid, OfReport, Asks, IsCommand, subject_of}
-use Rattle.tv_top.specs.Acceptance.{IsAccepted}
-use Rattle.tv_top.specs.Rejections.{FaultOf}
-use Rattle.tv_top.specs.Reports.{IsReport, IsWide, IsDiffers, IsUnsuited, IsBegun}
+use Rattle.tv_answers.specs.Texts.{memory_text, read_text, words_text}
+use Rattle.tv_acceptance.specs.Acceptance.{IsAccepted}
+use Rattle.tv_acceptance.specs.Rejections.{FaultOf}
+use Rattle.tv_answers.specs.Reports.{IsReport, IsWide, IsDiffers, IsUnsuited, IsBegun}
 use Rattle.tv_spec_plane.specs.declared.limits.TheConstants.{MOST_BYTES}
 use Rattle.tv_report_reader.specs.declared.limits.TheConstants.{MOST_REPORT_BYTES}
 pub use Rattle.tv_top.specs.Changes.{Change, Gave}
 use Rattle.tv_top.specs.Verification.{DeservesVerdict, DeservesReportFault}
 use Rattle.tv_words.specs.declared.command.Command.{Command}
-use Rattle.tv_top.specs.declared.status.Status.{Status}
-use Rattle.tv_top.specs.declared.status.Status.TheVariants.{Done, Words, File, Wide, Differs, Memory, ReadFault, WriteFault}
-
-abbrev pub memory_text : List ℕ
-memory_text = line_text (codes "refused" ∷ codes "memory" ∷ [])
-
-abbrev pub read_text : List ℕ
-read_text = line_text (codes "refused" ∷ codes "read" ∷ [])
-
-abbrev pub words_text : ℕ → List ℕ
-words_text place = line_text (codes "refused" ∷ codes "words" ∷ spelled (pos place) ∷ [])
+use Rattle.tv_answers.specs.declared.status.Status.{Status}
+use Rattle.tv_answers.specs.declared.status.Status.TheVariants.{Done, Words, File, Wide, Differs, Memory, ReadFault, WriteFault}
 
 abbrev pub IsOver : Subject → Change → Web → Type 0
 IsOver OfFile io w = (bytes : List ℕ) × Gave io bytes × IsAccepted bytes w

@@ -23,15 +23,15 @@ use Rattle.tv_report_reader.specs.Faults.{IsReport as IsReportText, IsReportFaul
 use Rattle.tv_outside.specs.Faults.{Rose}
 use Rattle.tv_spec_reports.specs.Grids.{grid}
 use Rattle.tv_words.specs.Commands.{Subject, OfFile, OfGrid, OfReport, Asks, IsCommand, subject_of}
-use Rattle.tv_top.specs.Acceptance.{IsAccepted}
-use Rattle.tv_top.specs.Reports.{IsWide, IsDiffers, IsUnsuited}
-use Rattle.tv_top.specs.Rejections.{FaultOf}
+use Rattle.tv_acceptance.specs.Acceptance.{IsAccepted}
+use Rattle.tv_answers.specs.Reports.{IsWide, IsDiffers, IsUnsuited}
+use Rattle.tv_acceptance.specs.Rejections.{FaultOf}
 use Rattle.tv_top.specs.Changes.{Change}
 use Rattle.tv_top.specs.Verification.{IsVerdictOn}
 use Rattle.tv_words.specs.declared.command.Command.{Command}
 use Rattle.tv_words.specs.declared.command.Command.TheVariants.{Verify}
-use Rattle.tv_top.specs.declared.status.Status.{Status}
-use Rattle.tv_top.specs.declared.status.Status.TheVariants.{Done, Words, File, Wide, Differs, Memory}
+use Rattle.tv_answers.specs.declared.status.Status.{Status}
+use Rattle.tv_answers.specs.declared.status.Status.TheVariants.{Done, Words, File, Wide, Differs, Memory}
 
 abbrev pub IsGiven : Subject → Change → Web → Type 0
 IsGiven OfFile io w = (bytes : List ℕ) × (io.before.bytes ≡ Some bytes) × IsAccepted bytes w

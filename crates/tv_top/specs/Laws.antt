@@ -1,32 +1,11 @@
--- What is true of accepted files, as laws.
+-- The limits of what words may ask for and of what is read, as a law.
 --
--- WordsHaveLimits           == sides from 1 to 7, degrees to 24 and orders from -64 to 64 are those that words may ask for; a
---                              file has at most 65,536 bytes, and a report that is checked 16,777,216
--- AcceptedIsNotRefused      == bytes that are accepted have no fault: acceptance and refusal exclude each other
--- AcceptedAsOneWeb          == bytes are accepted as one web at most
--- GridIsAccepted            == the file of a grid is accepted, with the grid as its web
--- AcceptedHasEdgeRule       == every compact edge has its rule
--- AcceptedConfigurationSign == the sign of a configuration is that of its class and Euler characteristic, whatever diagrams
---                              stand on the open edges
--- AcceptedPartialSign       == so is that of a partial configuration, over any number of corners
--- AcceptedNoneCancels       == a coefficient, the signed count of the configurations, is the sign of its class and exponent
---                              times their number
--- AcceptedSizeIsNumber      == so the absolute value of a coefficient is the number of its configurations
-use Rattle.std.specs.Prelude.{◌≡◌, ℕ, ℤ, pos, neg_ℤ, ◌*ℤ◌, unsigned_abs, List, length}
-use Rattle.tv_lattice.specs.declared.fault.FileFault.{FileFault}
-use Rattle.tv_spec_plane.specs.Web.{Web, class_sign}
-use Rattle.tv_spec_boxes.specs.Assignments.{Rows, class_of}
-use Rattle.tv_spec_boxes.specs.Configurations.{Configuration, configurations, chi_of, configuration_sign}
-use Rattle.tv_spec_series.specs.Reduced.{full_coefficient}
-use Rattle.tv_laws_edges.specs.Rule.{HasEdgeRule}
-use Rattle.tv_spec_partial.specs.Partial.{partial_chi, partial_sign}
-use Rattle.tv_spec_reports.specs.Grids.{grid, grid_text}
+-- WordsHaveLimits == sides from 1 to 7, degrees to 24 and orders from -64 to 64 are those that words may ask for; a file has at most
+--                    65,536 bytes, and a report that is checked 16,777,216
+use Rattle.std.specs.Prelude.{◌≡◌, pos, neg_ℤ}
 use Rattle.tv_spec_plane.specs.declared.limits.TheConstants.{MOST_BYTES}
 use Rattle.tv_report_reader.specs.declared.limits.TheConstants.{MOST_REPORT_BYTES}
 use Rattle.tv_words.specs.declared.command.TheConstants.{MIN_SIDE, MAX_SIDE, MAX_DEGREE, MIN_ORDER, MIN_INTEGERS_ORDER, MAX_ORDER}
-use Rattle.tv_words.specs.Commands.{IsSide}
-use Rattle.tv_top.specs.Acceptance.{IsAccepted}
-use Rattle.tv_top.specs.Rejections.{FaultOf}
 
 pub record WordsHaveLimits : Type 0 where
   pub least_side : MIN_SIDE ≡ pos 1
@@ -37,31 +16,3 @@ pub record WordsHaveLimits : Type 0 where
   pub greatest_order : MAX_ORDER ≡ pos 64
   pub most_bytes : MOST_BYTES ≡ 65536
   pub most_report_bytes : MOST_REPORT_BYTES ≡ 16777216
-
-abbrev pub AcceptedIsNotRefused : Type 0
-AcceptedIsNotRefused = (bytes : List ℕ) (w : Web) (f : FileFault) → IsAccepted bytes w → FaultOf bytes f → ⊥
-
-abbrev pub AcceptedAsOneWeb : Type 0
-AcceptedAsOneWeb = (bytes : List ℕ) (v w : Web) → IsAccepted bytes v → IsAccepted bytes w → v ≡ w
-
-abbrev pub GridIsAccepted : Type 0
-GridIsAccepted = (side : ℕ) → IsSide side → IsAccepted (grid_text side) (grid side)
-
-abbrev pub AcceptedHasEdgeRule : Type 0
-AcceptedHasEdgeRule = (bytes : List ℕ) (w : Web) → IsAccepted bytes w → HasEdgeRule w
-
-abbrev pub AcceptedConfigurationSign : Type 0
-AcceptedConfigurationSign = (bytes : List ℕ) (w : Web) (fixed : List Rows) (c : Configuration) → IsAccepted bytes w
-    → configuration_sign w fixed c ≡ class_sign w.points (class_of w c.diagrams) (chi_of w fixed c)
-
-abbrev pub AcceptedPartialSign : Type 0
-AcceptedPartialSign = (bytes : List ℕ) (w : Web) (t : ℕ) (c : Configuration) → IsAccepted bytes w
-    → partial_sign w t c ≡ class_sign w.points (class_of w c.diagrams) (partial_chi w t c)
-
-abbrev pub AcceptedNoneCancels : Type 0
-AcceptedNoneCancels = (bytes : List ℕ) (w : Web) (fixed : List Rows) (v : List ℤ) (n : ℤ) → IsAccepted bytes w
-    → full_coefficient w fixed v n ≡ class_sign w.points v n *ℤ pos (length (configurations w fixed v n))
-
-abbrev pub AcceptedSizeIsNumber : Type 0
-AcceptedSizeIsNumber = (bytes : List ℕ) (w : Web) (fixed : List Rows) (v : List ℤ) (n : ℤ) → IsAccepted bytes w
-    → unsigned_abs (full_coefficient w fixed v n) ≡ length (configurations w fixed v n)

@@ -1,10 +1,3 @@
-pub mod Acceptance
-pub mod SeriesReport
-pub mod Integers
-pub mod Boxes
-pub mod Reports
-pub mod Rejections
-pub mod Status
 pub mod Changes
 pub mod Verification
 pub mod Answers
@@ -12,4 +5,3 @@ pub mod Replies
 pub mod Listings
 pub mod Completeness
 pub mod Laws
-pub mod Residues

@@ -15,11 +15,12 @@ use Rattle.tv_spec_plane.specs.Web.{Web}
 use Rattle.tv_spec_boxes.specs.Configurations.{Configuration}
 use Rattle.tv_spec_text.specs.Lines.{text_of}
 use Rattle.tv_spec_reports.specs.Boxes.{config_lines}
-use Rattle.tv_top.specs.Answers.{Change, memory_text, Told}
-use Rattle.tv_top.specs.Replies.{CarriesOut}
+use Rattle.tv_answers.specs.Texts.{memory_text}
+use Rattle.tv_top.specs.Answers.{Change, Told}
+use Rattle.tv_answers.specs.Carried.{CarriesOut}
 use Rattle.tv_words.specs.declared.command.Command.{Command}
-use Rattle.tv_top.specs.declared.status.Status.{Status}
-use Rattle.tv_top.specs.declared.status.Status.TheVariants.{Done, Memory}
+use Rattle.tv_answers.specs.declared.status.Status.{Status}
+use Rattle.tv_answers.specs.declared.status.Status.TheVariants.{Done, Memory}
 use Rattle.tv_top.specs.declared.pieces.Step.{Step}
 use Rattle.tv_top.specs.declared.pieces.Step.TheVariants.{Further, Finished}
 

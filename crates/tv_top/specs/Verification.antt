@@ -26,8 +26,8 @@ use Rattle.tv_report_reader.specs.Faults.{IsReport, IsReportFault}
 use Rattle.tv_words.specs.Commands.{Asks}
 use Rattle.tv_top.specs.Changes.{Change, Gave}
 use Rattle.tv_words.specs.declared.command.Command.TheVariants.{Verify}
-use Rattle.tv_top.specs.declared.status.Status.{Status}
-use Rattle.tv_top.specs.declared.status.Status.TheVariants.{Done, Wide, Differs}
+use Rattle.tv_answers.specs.declared.status.Status.{Status}
+use Rattle.tv_answers.specs.declared.status.Status.TheVariants.{Done, Wide, Differs}
 
 abbrev pub report_fault_line : ReportFault → Line
 report_fault_line TooLong = long_report_line

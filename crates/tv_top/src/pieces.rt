@@ -6,14 +6,14 @@ ghost use Rattle.tv_spec_text.specs.Lines.{text_of};
 ghost use Rattle.tv_spec_boxes.specs.Configurations.{Configuration, configurations};
 ghost use Rattle.tv_spec_boxes.specs.Assignments.{no_legs};
 ghost use Rattle.tv_top.specs.Answers.{Told};
-ghost use Rattle.tv_top.specs.Boxes.{Suits};
+ghost use Rattle.tv_answers.specs.Boxes.{Suits};
 ghost use Rattle.tv_words.specs.Commands.{IsOrder};
 ghost use Rattle.tv_top.specs.Listings.{IsTold, Finishes, Steps};
 
-use crate::answer::Listing;
-use crate::status::Status;
 use crate::telling::{tell, tell_memory};
 use std::alloc::Global;
+use tv_answers::answer::Listing;
+use tv_answers::status::Status;
 use tv_boxes::{Config, Lister};
 use tv_degrees::grade::GradedWeb;
 use tv_lattice::class::Class;

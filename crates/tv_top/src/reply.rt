@@ -5,16 +5,16 @@ ghost use Rattle.tv_words.specs.Commands.{Subject, OfFile, Asks, IsAsked, IsOrde
 ghost use Rattle.tv_top.specs.Answers.{Reads};
 ghost use Rattle.tv_top.specs.Replies.{IsAnswered, IsJudged, Replies};
 
-use crate::acceptance::accept;
-use crate::answer::{Failure, Listing, Outcome, in_text, refuse, reject};
-use crate::check::check_answer;
-use crate::classes::class_of;
-use crate::grids::{generate_answer, summary_answer};
-use crate::gv::gv_answer;
-use crate::series::series_answer;
-use crate::status::Status;
 use crate::verification::over_report;
 use std::alloc::Global;
+use tv_acceptance::accept;
+use tv_answers::answer::{Failure, Listing, Outcome, in_text, refuse, reject};
+use tv_answers::check::check_answer;
+use tv_answers::classes::class_of;
+use tv_answers::grids::{generate_answer, summary_answer};
+use tv_answers::gv::gv_answer;
+use tv_answers::series::series_answer;
+use tv_answers::status::Status;
 use tv_degrees::grade::GradedWeb;
 use tv_lattice::fault::{FileFault, InputError};
 use tv_outside::{ReadEnd, Source, read_all};

@@ -4,12 +4,12 @@ ghost use Rattle.std.specs.Prelude.{map, string_bytes};
 ghost use Rattle.tv_top.specs.Answers.{Answers};
 ghost use Rattle.tv_top.specs.Completeness.{Completes};
 
-use crate::answer::{Failure, Outcome};
 use crate::pieces::tell_listing;
 use crate::reply::reply;
-use crate::status::Status;
 use crate::telling::{tell, tell_memory};
 use std::alloc::Global;
+use tv_answers::answer::{Failure, Outcome};
+use tv_answers::status::Status;
 use tv_outside::{Sink, Source};
 
 const READ_TEXT: &[u8] = b"refused read\n";

@@ -1,8 +1,9 @@
 //! Tells a text to a sink. Which text is deserved is decided elsewhere.
 
-ghost use Rattle.tv_top.specs.Answers.{Told, memory_text};
+ghost use Rattle.tv_answers.specs.Texts.{memory_text};
+ghost use Rattle.tv_top.specs.Answers.{Told};
 
-use crate::status::Status;
+use tv_answers::status::Status;
 use tv_outside::{Sink, write_all};
 
 const MEMORY_TEXT: &[u8] = b"refused memory\n";

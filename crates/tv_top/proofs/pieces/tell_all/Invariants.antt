@@ -1,7 +1,7 @@
 use Rattle.std.proofs.Common.{length}
 use Rattle.tv_outside.specs.Seen.{Seen}
 use Rattle.tv_top.specs.Listings.{Finishes}
-use Rattle.tv_top.specs.declared.status.Status.{Status}
+use Rattle.tv_answers.specs.declared.status.Status.{Status}
 use Rattle.tv_top.proofs.pieces.tell_all.Given as goal
 
 abbrev pub invariant-pieces : goal.invariant-pieces

@@ -1,5 +1,3 @@
-use Rattle.std.proofs.Common.{ℕ, List, subst}
-use Rattle.tv_words.specs.Commands.{Asks}
 use Rattle.tv_top.proofs.reply.answer_to.Goals as goal
 
 pub returns-in-Verify-clause-deserved : goal.returns-in-Verify-clause-deserved

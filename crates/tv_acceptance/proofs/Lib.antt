@@ -1,0 +1,5 @@
+pub mod Reading
+pub mod Sound
+pub mod Excluded
+pub mod AcceptedSigns
+pub mod GridWebs

@@ -1,0 +1,5 @@
+use Rattle.tv_acceptance.proofs.AcceptedSigns.{accepted_partial_sign}
+use Rattle.tv_acceptance.proofs.laws.accepted_partial_configuration_has_sign_of_class.Goals as goal
+
+pub returns : goal.returns
+returns c = accepted_partial_sign

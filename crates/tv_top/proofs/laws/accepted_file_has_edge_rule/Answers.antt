@@ -1,5 +1,0 @@
-use Rattle.tv_top.proofs.AcceptedSigns.{accepted_rule}
-use Rattle.tv_top.proofs.laws.accepted_file_has_edge_rule.Goals as goal
-
-pub returns : goal.returns
-returns c = accepted_rule

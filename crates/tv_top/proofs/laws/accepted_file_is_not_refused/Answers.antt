@@ -1,5 +1,0 @@
-use Rattle.tv_top.proofs.Completeness.{accepted_or_fault}
-use Rattle.tv_top.proofs.laws.accepted_file_is_not_refused.Goals as goal
-
-pub returns : goal.returns
-returns c = accepted_or_fault
