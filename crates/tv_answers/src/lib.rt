@@ -6,6 +6,8 @@ pub mod check;
 pub mod classes;
 pub mod grids;
 pub mod gv;
+#[cfg(test)]
+mod remainders;
 mod residues;
 pub mod series;
 pub mod status;
