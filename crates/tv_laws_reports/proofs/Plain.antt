@@ -1,5 +1,5 @@
 -- A printable number is spelled by a plain word.
-use Rattle.std.proofs.Common.{ℕ, suc, ◌<◌, ℤ, pos, negsuc, refl, arith}
+use Rattle.std.proofs.Common.{suc, ℤ, pos, negsuc, refl, arith}
 use Rattle.std.specs.Fmt.{decimal}
 use Rattle.tv_spec_text.specs.Lines.{spelled}
 use Rattle.tv_spec_text.specs.Reports.{IsPrintable}
