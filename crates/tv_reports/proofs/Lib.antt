@@ -7,3 +7,4 @@ mod Counts
 pub mod LeastRemainders
 pub mod ResidueTerms
 pub mod ResidueLines
+mod SameClasses

@@ -6,6 +6,8 @@ pub mod boxes;
 pub mod check;
 pub mod gv;
 pub mod laws;
+#[cfg(test)]
+mod residue_tests;
 pub mod residues;
 pub mod series;
 pub mod summary;
