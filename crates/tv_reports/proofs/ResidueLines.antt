@@ -83,9 +83,6 @@ pair_at xs ys k x y e d =
 pub length-classes : (xs : List (Row ℕ)) → length (classes xs) ≡ length xs
 length-classes xs = length-map xs (λ (x : Row ℕ). x.class)
 
-pub as_many : (xs ys : List (Row ℕ)) → classes xs ≡ classes ys → length xs ≡ length ys
-as_many xs ys e = sym (length-classes xs) ∙ ap length e ∙ length-classes ys
-
 -- a class and the terms of both series are printed as the section of the rows
 pub entry_told : (old now : List ℕ) (hs : List ℤ) (d m u : ℤ) (v w : List ℤ) (x y : Terms ℕ) → d ≡ degree_of hs v → now ≡ old ++ flat_map line_text (class_line (plain_class d v) ∷ map residue_term_line (residue_terms_below x y (m +ℤ pos 1))) → m ≡ u → now ≡ old ++ pair_text hs u (row v x, row w y)
 entry_told old now hs d m u v w x y degree e upto =
