@@ -1,13 +1,10 @@
 -- What the sections of a family with integers tell, and how they are printed.
-use Rattle.std.proofs.Common.{◌≡◌, ◌≢◌, ℕ, ◌+◌, ◌<◌, ◌≤◌, ℤ, pos, List, [], ◌∷◌, ◌++◌, length, map, take, get_or, Some, false, refl, sym, ap, ◌∙◌, subst, append_assoc}
+use Rattle.std.proofs.Common.{◌≡◌, ◌≢◌, ℕ, ◌+◌, ◌<◌, ◌≤◌, ℤ, pos, List, [], ◌∷◌, ◌++◌, length, map, take, get_or, Some, false, refl, sym, ap, ◌∙◌, subst}
 use Rattle.std.specs.List.{AllByRecursion, flat_map, slice_get, Contains}
 use Rattle.std.specs.Ordering.{int_eq}
 use Rattle.std.proofs.lemmas.Bool.Decides.{Decides-int_eq}
 use Rattle.std.proofs.lemmas.List.{take_more, take_all}
-use Rattle.std.proofs.lemmas.List.Concat.{flat_map-append}
-use Rattle.std.proofs.lemmas.List.Folds.{flat_map-map}
 use Rattle.std.proofs.lemmas.Option.{slice_get_within, get_or_from_slice_get}
-use Rattle.tv_lemmas.proofs.Lists.{flat_map-flat_map}
 use Rattle.tv_lemmas.proofs.Members.{contains-head, contains-later, all-append, all-map}
 use Rattle.tv_ring.specs.Whole.{wholes}
 use Rattle.tv_laws_series.specs.Terms.{Terms}
@@ -17,7 +14,7 @@ use Rattle.tv_spec_boxes.specs.Assignments.{same_vector}
 use Rattle.tv_spec_series.specs.Families.{Row, Family, row, classes, find, series_coefficient}
 use Rattle.tv_spec_series.proofs.Members.{row_found}
 use Rattle.tv_spec_katz.specs.Katz.{Integer}
-use Rattle.tv_spec_text.specs.Lines.{Line, line_text}
+use Rattle.tv_spec_text.specs.Lines.{line_text}
 use Rattle.tv_spec_text.specs.Reports.{AreTerms, section_lines}
 use Rattle.tv_spec_reports.specs.IntegerLines.{GvSection, GenusValue as Spoken, IsSmallInteger, HasSmallNumbers, integer_line, gv_section_lines, gv_text}
 use Rattle.tv_spec_reports.specs.IntegersReport.{integers_of, TellsClass}

@@ -1,14 +1,13 @@
 -- Remainders of whole numbers, and the multiples of one among remainders.
-use Rattle.std.proofs.Common.{◌≡◌, ℕ, zero, suc, ◌+◌, ◌-◌, ◌*◌, ◌<◌, ◌≤◌, ◌%◌, ◌/◌, ℤ, pos, negsuc, ◌+ℤ◌, ◌*ℤ◌, neg_ℤ, refl, sym, ap, ◌∙◌, arith, mod-eq_of_lt}
+use Rattle.std.proofs.Common.{◌≡◌, ℕ, zero, suc, ◌+◌, ◌-◌, ◌*◌, ◌<◌, ◌≤◌, ◌%◌, ◌/◌, pos, negsuc, ◌*ℤ◌, neg_ℤ, refl, sym, ap, ◌∙◌, arith, mod-eq_of_lt}
 use Rattle.std.proofs.Math.Nat.{mod_self, zero-mod, mod-add-mod, add-mod-mod}
 use Rattle.std.proofs.Math.IntN.{negsuc-*ℤ-pos}
 use Rattle.std.proofs.lemmas.Nat.{mod_below, div-add-mod'}
 use Rattle.std.proofs.lemmas.Int.{ints}
 use Rattle.tv_lemmas.proofs.Integers.{neg-mul}
-use Rattle.tv_ring.specs.Sums.{times, whole_times}
+use Rattle.tv_ring.specs.Sums.{times}
 use Rattle.tv_ring.specs.Residue.{modulus, residues}
 use Rattle.tv_ring.proofs.Times.{times-none, times-more, whole_times-pos, whole_times-negsuc}
-use Rattle.tv_spec_reports.specs.Residues.{remainder}
 use Rattle.tv_reports.specs.LeastRemainders.{IsLeastRemainder, RemainderIsLeast, TimesOfResidues}
 
 -- a number below 0, by the quotient and the remainder of its absolute value

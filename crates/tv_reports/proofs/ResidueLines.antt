@@ -1,7 +1,7 @@
 -- How the sections by residues are printed.
 use Rattle.std.proofs.Common.{◌≡◌, ℕ, ◌+◌, ◌<◌, ℤ, pos, ◌+ℤ◌, ◌≤ℤ◌, List, ◌∷◌, ◌++◌, map, length, Some, ◌⊎◌, inl, inr, sym, ap, ◌∙◌, arith, append-nil}
 use Rattle.std.specs.List.{flat_map, slice_get, zip}
-use Rattle.std.proofs.lemmas.Int.{ints, clamps}
+use Rattle.std.proofs.lemmas.Int.{ints}
 use Rattle.std.proofs.lemmas.List.{map-append, length-map}
 use Rattle.std.proofs.lemmas.List.FromFn.{filter_of_map_range_with_len_more}
 use Rattle.std.proofs.lemmas.Option.{slice_get_within, slice_get-get_or, get_or_from_slice_get}
@@ -82,9 +82,6 @@ pair_at xs ys k x y e d =
 
 pub length-classes : (xs : List (Row ℕ)) → length (classes xs) ≡ length xs
 length-classes xs = length-map xs (λ (x : Row ℕ). x.class)
-
-pub as_many : (xs ys : List (Row ℕ)) → classes xs ≡ classes ys → length xs ≡ length ys
-as_many xs ys e = sym (length-classes xs) ∙ ap length e ∙ length-classes ys
 
 -- a class and the terms of both series are printed as the section of the rows
 pub entry_told : (old now : List ℕ) (hs : List ℤ) (d m u : ℤ) (v w : List ℤ) (x y : Terms ℕ) → d ≡ degree_of hs v → now ≡ old ++ flat_map line_text (class_line (plain_class d v) ∷ map residue_term_line (residue_terms_below x y (m +ℤ pos 1))) → m ≡ u → now ≡ old ++ pair_text hs u (row v x, row w y)

@@ -14,7 +14,7 @@ use tv_ring::Residue;
 use tv_text::series::Kind;
 
 // In class zero the coefficients 1, -3, 1000000007 and 998244353 at 0 to 3; in class 1 -2 the coefficient 1000000007 at -1, 5 at 2,
-// and 0 at 3.
+// and the product of both primes at 3.
 const MADE_UP: &str = "report series reduced residues 1000000007 998244353
 heights 1 0
 degree 2
