@@ -14,35 +14,44 @@ use tv_lattice::class::Class;
 use tv_lattice::point::Point;
 use tv_spec_plane::records::Triple;
 use tv_triangulation::triangulate::triangulate;
-use tv_web::web::build_web;
+use tv_web::web::{Web, build_web};
 
-fn point(x: i64, y: i64) -> Result<Point, Fail> {
-    Ok(Point::new(x, y).ok_or("a point")?)
+fn three_points() -> Option<[Point; 3]> {
+    Some([Point::new(0, 0)?, Point::new(1, 0)?, Point::new(0, 1)?])
 }
 
 // One corner, without compact edges.
 fn one_corner(alloc: Global) -> Result<GradedWeb, Fail> {
-    let points = [point(0, 0)?, point(1, 0)?, point(0, 1)?];
+    let points = three_points().ok_or("points")?;
     let triangulation = triangulate(alloc, &points, &[Triple { a: 0, b: 1, c: 2 }])?;
     let web = build_web(alloc, triangulation)?;
     if web.points().len() != 3 {
         return Err("three points".into());
     }
-    let heights = [0, 0, 0].to_vec(alloc)?;
-    Ok(grade(alloc, web, heights)?)
+    Ok(grade(alloc, web, [0, 0, 0].to_vec(alloc)?)?)
+}
+
+fn square() -> Option<[Point; 4]> {
+    Some([
+        Point::new(0, 0)?,
+        Point::new(1, 0)?,
+        Point::new(1, 1)?,
+        Point::new(0, 1)?,
+    ])
+}
+
+fn web_of(alloc: Global, points: &[Point; 4]) -> Result<Web, Fail> {
+    let triangles = [Triple { a: 0, b: 1, c: 2 }, Triple { a: 0, b: 2, c: 3 }];
+    Ok(build_web(alloc, triangulate(alloc, points, &triangles)?)?)
 }
 
 // The conifold, whose edge has the degree 1.
 fn conifold(alloc: Global) -> Result<GradedWeb, Fail> {
-    let points = [point(0, 0)?, point(1, 0)?, point(1, 1)?, point(0, 1)?];
-    let triangles = [Triple { a: 0, b: 1, c: 2 }, Triple { a: 0, b: 2, c: 3 }];
-    let triangulation = triangulate(alloc, &points, &triangles)?;
-    let web = build_web(alloc, triangulation)?;
+    let web = web_of(alloc, &square().ok_or("points")?)?;
     if web.points().len() != 4 {
         return Err("four points".into());
     }
-    let heights = [0, 1, 0, 0].to_vec(alloc)?;
-    Ok(grade(alloc, web, heights)?)
+    Ok(grade(alloc, web, [0, 1, 0, 0].to_vec(alloc)?)?)
 }
 
 // The class with these entries, of a small degree.
@@ -102,48 +111,37 @@ fn has_rows(config: &Config, rows: &[u32]) -> bool {
 }
 
 // Whether the corner has these extras in the next configuration.
-fn gives(all: &mut Lister<'_>, corner: usize, cells: &[Cell]) -> Result<bool, Fail> {
-    let config = all.next()?.ok_or("another one")?;
-    Ok(has_extras(&config, corner, cells))
+fn gives(all: &mut Lister<'_>, corner: usize, cells: &[Cell]) -> bool {
+    match all.next() {
+        Ok(Some(config)) => has_extras(&config, corner, cells),
+        _ => false,
+    }
 }
 
 // Whether the next configuration has one cell on the edge, and these extras at the corner.
-fn gives_line(all: &mut Lister<'_>, corner: usize, cells: &[Cell]) -> Result<bool, Fail> {
-    let config = all.next()?.ok_or("another one")?;
-    Ok(has_rows(&config, &[1]) && has_extras(&config, corner, cells))
+fn gives_line(all: &mut Lister<'_>, corner: usize, cells: &[Cell]) -> bool {
+    match all.next() {
+        Ok(Some(config)) => has_rows(&config, &[1]) && has_extras(&config, corner, cells),
+        _ => false,
+    }
 }
 
-fn ends(all: &mut Lister<'_>) -> Result<bool, Fail> {
-    Ok(all.next()?.is_none())
+fn ends(all: &mut Lister<'_>) -> bool {
+    matches!(all.next(), Ok(None))
 }
 
-fn gives_two_boxes(all: &mut Lister<'_>) -> Result<bool, Fail> {
-    let origin = Cell { x: 0, y: 0, z: 0 };
-    let first = gives(all, 0, &[Cell { x: 1, y: 0, z: 0 }, origin])?;
-    let second = gives(all, 0, &[origin, Cell { x: 0, y: 0, z: 1 }])?;
-    let third = gives(all, 0, &[origin, Cell { x: 0, y: 1, z: 0 }])?;
-    Ok(first && second && third)
-}
-
-fn gives_one_box_at_the_second_corner(all: &mut Lister<'_>) -> Result<bool, Fail> {
-    let first = gives_line(all, 1, &[Cell { x: 1, y: 0, z: 0 }])?;
-    let second = gives_line(all, 1, &[Cell { x: 0, y: 1, z: 0 }])?;
-    Ok(first && second)
-}
-
-fn gives_one_box_at_the_first_corner(all: &mut Lister<'_>) -> Result<bool, Fail> {
-    let third = gives_line(all, 0, &[Cell { x: 1, y: 0, z: 0 }])?;
-    let fourth = gives_line(all, 0, &[Cell { x: 0, y: 0, z: 1 }])?;
-    Ok(third && fourth)
+fn cell(x: u32, y: u32, z: u32) -> Cell {
+    Cell { x, y, z }
 }
 
 #[test]
 fn lists_two_boxes(rt: HostRuntime) -> Result<(), Fail> {
     let web = one_corner(rt.alloc())?;
     let mut all = two_boxes(rt.alloc(), &web)?;
-    assert!(rt; gives_two_boxes(&mut all)?);
-    assert!(rt; ends(&mut all)?);
-    assert!(rt; ends(&mut all)?);
+    assert!(rt; gives(&mut all, 0, &[cell(1, 0, 0), cell(0, 0, 0)]));
+    assert!(rt; gives(&mut all, 0, &[cell(0, 0, 0), cell(0, 0, 1)]));
+    assert!(rt; gives(&mut all, 0, &[cell(0, 0, 0), cell(0, 1, 0)]));
+    assert!(rt; ends(&mut all) && ends(&mut all));
     Ok(())
 }
 
@@ -151,8 +149,10 @@ fn lists_two_boxes(rt: HostRuntime) -> Result<(), Fail> {
 fn lists_one_line_and_one_box(rt: HostRuntime) -> Result<(), Fail> {
     let web = conifold(rt.alloc())?;
     let mut all = one_line(rt.alloc(), &web)?;
-    assert!(rt; gives_one_box_at_the_second_corner(&mut all)?);
-    assert!(rt; gives_one_box_at_the_first_corner(&mut all)?);
-    assert!(rt; ends(&mut all)?);
+    assert!(rt; gives_line(&mut all, 1, &[cell(1, 0, 0)]));
+    assert!(rt; gives_line(&mut all, 1, &[cell(0, 1, 0)]));
+    assert!(rt; gives_line(&mut all, 0, &[cell(1, 0, 0)]));
+    assert!(rt; gives_line(&mut all, 0, &[cell(0, 0, 1)]));
+    assert!(rt; ends(&mut all));
     Ok(())
 }

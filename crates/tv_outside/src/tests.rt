@@ -7,6 +7,7 @@ use crate::{
     Failed, MemSink, MemSource, ReadEnd, Sink, Source, StdSink, StdSource, read_all, write_all,
 };
 use std::alloc::Global;
+use std::fmt::Display;
 use std::io;
 use std::io::{ErrorKind, Read, Write};
 use std::test::Fail;
@@ -31,10 +32,7 @@ fn a_sink_takes_what_it_has_room_for(rt: HostRuntime) -> Result<(), Fail> {
 // Whether the read gives these bytes.
 fn gives(source: &mut MemSource, want: &[u8]) -> bool {
     let mut buf = [0; 32];
-    match source.read(&mut buf) {
-        Ok(count) => &buf[..count] == want,
-        Err(_) => false,
-    }
+    source.read(&mut buf) == Ok(want.len()) && buf.starts_with(want)
 }
 
 #[test]
@@ -97,18 +95,16 @@ fn writes_offer_all_that_is_not_taken(rt: HostRuntime) -> Result<(), Fail> {
 }
 
 #[test]
-fn std_readers_are_carried_over(rt: HostRuntime) -> Result<(), Fail> {
+fn std_readers_are_carried_over(rt: HostRuntime) {
     let mut source = StdSource::new(b"abc".as_slice());
     assert!(rt; reads(rt.alloc(), &mut source, 3, b"abc"));
-    Ok(())
 }
 
 #[test]
-fn std_writers_are_carried_over(rt: HostRuntime) -> Result<(), Fail> {
+fn std_writers_are_carried_over(rt: HostRuntime) {
     let mut held = Vec::new(rt.alloc());
     assert!(rt; write_all(&mut StdSink::new(&mut held), b"abc") == Ok(()));
     assert!(rt; held.as_slice() == b"abc".as_slice());
-    Ok(())
 }
 
 // A reader and a writer of std that err `errs` times, then take nothing `stalls` times, then give or take three bytes. It
@@ -170,88 +166,74 @@ impl Write for Shaky {
     }
 }
 
-// A read that fails and leaves the buffer alone, and one that gives three bytes: the source's counts after both.
-fn two_reads(reader: &mut Shaky) -> Option<(u64, u64)> {
+// A read that fails and leaves the buffer alone, and one that gives three bytes: two calls of the source, and one fault.
+fn gives_at_the_second_call(reader: &mut Shaky) -> bool {
     let mut source = StdSource::new(reader);
     let mut buf = [7; 4];
-    if source.read(&mut buf) != Err(Failed) {
-        return None;
-    }
-    if buf != [7; 4] {
-        return None;
-    }
-    if source.read(&mut buf) != Ok(3) {
-        return None;
-    }
-    Some((source.calls(), source.faults()))
+    source.read(&mut buf) == Err(Failed)
+        && buf == [7; 4]
+        && source.read(&mut buf) == Ok(3)
+        && source.calls() == 2
+        && source.faults() == 1
 }
 
-// A write that fails, and one that takes three bytes: the sink's counts after both.
-fn two_writes(writer: &mut Shaky) -> Option<(u64, u64)> {
+// A write that fails, and one that takes three bytes: two calls of the sink, and one fault.
+fn takes_at_the_second_call(writer: &mut Shaky) -> bool {
     let mut sink = StdSink::new(writer);
-    if sink.write(b"abc") != Err(Failed) {
-        return None;
-    }
-    if sink.write(b"abcd") != Ok(3) {
-        return None;
-    }
-    Some((sink.calls(), sink.faults()))
+    sink.write(b"abc") == Err(Failed)
+        && sink.write(b"abcd") == Ok(3)
+        && sink.calls() == 2
+        && sink.faults() == 1
 }
 
 // One read is one call of the reader: the first, which errs, is Failed with one fault, and only the next one gives bytes.
 #[test]
-fn a_reader_that_errs_once_is_not_asked_again(rt: HostRuntime) -> Result<(), Fail> {
+fn a_reader_that_errs_once_is_not_asked_again(rt: HostRuntime) {
     let mut reader = failing_first(1, 0);
-    assert!(rt; two_reads(&mut reader) == Some((2, 1)));
-    assert_eq!(rt; reader.calls, 2);
-    Ok(())
+    assert!(rt; gives_at_the_second_call(&mut reader));
+    assert!(rt; reader.calls == 2);
 }
 
 // So is a write, whether the writer errs or takes nothing, and its flush comes after it.
 #[test]
-fn a_writer_that_errs_once_is_not_asked_again(rt: HostRuntime) -> Result<(), Fail> {
+fn a_writer_that_errs_once_is_not_asked_again(rt: HostRuntime) {
     let mut writer = failing_first(1, 0);
-    assert!(rt; two_writes(&mut writer) == Some((2, 1)));
-    assert_eq!(rt; writer.calls, 2);
-    assert_eq!(rt; writer.flushes, 1);
-    Ok(())
+    assert!(rt; takes_at_the_second_call(&mut writer));
+    assert!(rt; writer.calls == 2 && writer.flushes == 1);
 }
 
 #[test]
-fn a_writer_that_stalls_once_is_not_asked_again(rt: HostRuntime) -> Result<(), Fail> {
+fn a_writer_that_stalls_once_is_not_asked_again(rt: HostRuntime) {
     let mut writer = failing_first(0, 1);
-    assert!(rt; two_writes(&mut writer) == Some((2, 1)));
-    assert_eq!(rt; writer.calls, 2);
-    assert_eq!(rt; writer.flushes, 2);
-    Ok(())
+    assert!(rt; takes_at_the_second_call(&mut writer));
+    assert!(rt; writer.calls == 2 && writer.flushes == 2);
 }
 
 #[test]
-fn a_flush_that_fails_is_a_fault(rt: HostRuntime) -> Result<(), Fail> {
+fn a_flush_that_fails_is_a_fault(rt: HostRuntime) {
     let mut writer = failing_first(0, 0);
     writer.closed = true;
     assert!(rt; write_all(&mut StdSink::new(&mut writer), b"abc") == Err(Failed));
-    Ok(())
 }
 
 #[test]
-fn a_reader_that_errs_ends_the_reading(rt: HostRuntime) -> Result<(), Fail> {
+fn a_reader_that_errs_ends_the_reading(rt: HostRuntime) {
     let mut source = StdSource::new(failing_first(1, 0));
     assert!(rt; read_all(rt.alloc(), &mut source, 3) == Err(ReadEnd::Fault));
-    Ok(())
+}
+
+fn says<T: Display>(alloc: Global, error: &T, text: &str) -> bool {
+    match format!(in alloc; "{error}") {
+        Ok(shown) => shown.as_str() == text,
+        Err(_) => false,
+    }
 }
 
 #[test]
-fn errors_say_what_happened(rt: HostRuntime) -> Result<(), Fail> {
-    let failed = format!(in rt.alloc(); "{}", Failed)?;
-    assert!(rt; failed.as_str() == "a read or a write failed");
-    for (end, text) in [
-        (ReadEnd::TooLong, "the input is too long"),
-        (ReadEnd::Fault, "a read failed"),
-        (ReadEnd::Memory, "out of memory"),
-    ] {
-        let shown = format!(in rt.alloc(); "{end}")?;
-        assert!(rt; shown.as_str() == text);
-    }
-    Ok(())
+fn errors_say_what_happened(rt: HostRuntime) {
+    let alloc = rt.alloc();
+    assert!(rt; says(alloc, &Failed, "a read or a write failed"));
+    assert!(rt; says(alloc, &ReadEnd::TooLong, "the input is too long"));
+    assert!(rt; says(alloc, &ReadEnd::Fault, "a read failed"));
+    assert!(rt; says(alloc, &ReadEnd::Memory, "out of memory"));
 }
