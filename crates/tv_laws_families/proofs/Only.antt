@@ -50,7 +50,7 @@ module _ (hs : List ℤ) where
 classes_within : (w : Web) (d : ℕ) (us vs : List (List ℤ)) → AreClasses w d us → AreClasses w d vs → (x : List ℤ) → Contains us x → Contains vs x
 classes_within w d us vs is is' x held = is'.whole x (all-contains (IsClass w d) us x is.each held)
 
-same_classes : (w : Web) (d : ℕ) (us vs : List (List ℤ)) → AreClasses w d us → AreClasses w d vs → us ≡ vs
+pub same_classes : (w : Web) (d : ℕ) (us vs : List (List ℤ)) → AreClasses w d us → AreClasses w d vs → us ≡ vs
 same_classes w d us vs is is' = same_members w.heights us vs is.rises is'.rises (classes_within w d us vs is is') (classes_within w d vs us is' is)
 
 -- ---- rows of the same class have the same coefficients

@@ -2,3 +2,4 @@ pub mod Values
 mod BoxesValues
 mod GrammarValues
 mod IntegersReportValues
+mod ResidueValues

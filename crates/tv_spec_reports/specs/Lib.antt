@@ -6,3 +6,4 @@ pub mod Summaries
 pub mod SummaryReport
 pub mod Verdicts
 pub mod Grammar
+pub mod Residues

@@ -1,0 +1,31 @@
+-- Worked values: remainders of numbers from 0 on and below 0, and the report of one class by residues.
+use Rattle.std.specs.Prelude.{◌≡◌, ℕ, ℤ, pos, negsuc, List, [], ◌∷◌, codes, refl}
+use Rattle.std.specs.Fmt.{digits}
+use Rattle.tv_spec_text.specs.Lines.{line_text}
+use Rattle.tv_spec_reports.specs.Residues.{first_modulus, second_modulus, remainder, ResidueTerm, ResidueSection, residues_text}
+
+of_zero : remainder first_modulus (pos 0) ≡ 0
+of_zero = refl
+
+above : remainder first_modulus (pos 1000000012) ≡ 5
+above = refl
+
+below : remainder first_modulus (negsuc 97) ≡ 999999909
+below = refl
+
+below_second : remainder second_modulus (negsuc 97) ≡ 998244255
+below_second = refl
+
+-- a whole multiple leaves none
+multiple : remainder second_modulus (negsuc 998244352) ≡ 0
+multiple = refl
+
+term : ℤ → ℕ → ℕ → ResidueTerm
+term n r s = record { exponent = n; first = r; second = s }
+
+grid_section : ResidueSection
+grid_section = record { degree = pos 0; entries = pos 0 ∷ pos 0 ∷ []; terms = term (pos 0) 1 1 ∷ term (pos 1) 999999909 998244255 ∷ term (pos 2) 5047 5047 ∷ [] }
+
+grid_report : residues_text (codes "full") (pos 0 ∷ negsuc 0 ∷ []) (pos 0) (pos 64) (grid_section ∷ []) ≡ codes "report series full residues 1000000007 998244353\nheights 0 -1\ndegree 0\nupto 64\nclass 0 0 0\nterm 0 1 1\nterm 1 999999909 998244255\nterm 2 5047 5047\nend\n"
+unfolding line_text digits grid_section term
+grid_report = refl
