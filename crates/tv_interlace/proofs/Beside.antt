@@ -4,7 +4,7 @@ use Rattle.std.proofs.Common.{◌≡◌, ℕ, zero, suc, ◌+◌, ◌-◌, ◌<�
 use Rattle.std.specs.Prelude.{filter}
 use Rattle.std.specs.List.{flat_map}
 use Rattle.std.proofs.lemmas.List.Elements.{filter-append}
-use Rattle.std.proofs.lemmas.Bool.{cases_Bool}
+use Rattle.std.proofs.lemmas.Bool.{cases_Bool, cases_lt}
 use Rattle.std.proofs.lemmas.Bool.Decides.{nat_tests}
 use Rattle.tv_lemmas.proofs.Lists.{flat_map-filter, flat_map-same}
 use Rattle.tv_cells.specs.declared.legs.Legs.{Legs}
@@ -15,7 +15,7 @@ use Rattle.tv_interlace.specs.Bounds.{floor, ceiling}
 use Rattle.tv_interlace.specs.Columns.{behind, longer, one_more, firsts}
 use Rattle.tv_interlace.proofs.Bounded.{behind-outside}
 
-behind-append : (t : ℤ) (a : Shape) (full : ℕ) (front : List ℕ) (xs ys : List (List ℕ)) → behind t a full front (xs ++ ys) ≡ behind t a full front xs ++ behind t a full front ys
+pub behind-append : (t : ℤ) (a : Shape) (full : ℕ) (front : List ℕ) (xs ys : List (List ℕ)) → behind t a full front (xs ++ ys) ≡ behind t a full front xs ++ behind t a full front ys
 unfolding behind
 behind-append t a full front [] ys = refl
 behind-append t a full front (x ∷ xs) ys = step (interlaces t a (shape full (front ++ x))) (behind-append t a full front xs ys)
@@ -25,7 +25,7 @@ behind-append t a full front (x ∷ xs) ys = step (interlaces t a (shape full (f
     step true e = ap (λ ss. shape full (front ++ x) ∷ ss) e
     step false e = e
 
-behind-none : (t : ℤ) (a : Shape) (full : ℕ) (front : List ℕ) → behind t a full front [] ≡ []
+pub behind-none : (t : ℤ) (a : Shape) (full : ℕ) (front : List ℕ) → behind t a full front [] ≡ []
 unfolding behind
 behind-none t a full front = refl
 
@@ -44,7 +44,7 @@ downwards : (m : ℕ) → down m ≡ firsts (suc m)
 downwards zero = refl
 downwards (suc m) = ap (λ es. suc m ∷ es) (downwards m)
 
-longer-parts : (legs : Legs) (t u : ℤ) (a : Shape) (full : ℕ) (front : List ℕ) (d n top m : ℕ) → behind t a full front (longer legs u d n top m) ≡ flat_map (one_more legs t u a full front d n top m) (firsts (suc m))
+pub longer-parts : (legs : Legs) (t u : ℤ) (a : Shape) (full : ℕ) (front : List ℕ) (d n top m : ℕ) → behind t a full front (longer legs u d n top m) ≡ flat_map (one_more legs t u a full front d n top m) (firsts (suc m))
 unfolding longer one_more
 longer-parts legs t u a full front d n top m =
     ap (behind t a full front) (flat_map-filter test lists (down m))
@@ -66,11 +66,11 @@ longer-parts legs t u a full front d n top m =
     each e = by_test (test e) e
 
 -- parts that are empty are left out
-skip : {A : Type 0} (P : ℕ → List A) (j i : ℕ) → ((e : ℕ) → j ≤ e → e < i + j → P e ≡ []) → flat_map P (firsts (i + j)) ≡ flat_map P (firsts j)
+pub skip : {A : Type 0} (P : ℕ → List A) (j i : ℕ) → ((e : ℕ) → j ≤ e → e < i + j → P e ≡ []) → flat_map P (firsts (i + j)) ≡ flat_map P (firsts j)
 skip P j zero none = let z : 0 + j ≡ j = omega arith in rw z refl
 skip P j (suc i) none = let s : suc i + j ≡ suc (i + j) = omega arith in rw (s, none (i + j) (omega arith) (omega arith)) (skip P j i (λ e l h. none e l (omega arith)))
 
-all_empty : {A : Type 0} (P : ℕ → List A) (j : ℕ) → ((e : ℕ) → e < j → P e ≡ []) → flat_map P (firsts j) ≡ []
+pub all_empty : {A : Type 0} (P : ℕ → List A) (j : ℕ) → ((e : ℕ) → e < j → P e ≡ []) → flat_map P (firsts j) ≡ []
 all_empty P zero none = refl
 all_empty P (suc j) none = rw (none j (omega arith)) (all_empty P j (λ e l. none e (omega arith)))
 
@@ -114,52 +114,24 @@ unfolding behind
 ended-alone t a full front b before e i = rw (e, append-nil front, i) (sym (append-nil before))
 
 module _ (legs : Legs) (t u : ℤ) (a : Shape) (full : ℕ) (front : List ℕ) (d n top m : ℕ) where
-  outside : (e h : ℕ) → d ≡ full + length front → h ≡ base_at legs u d + e → h ≤ WITHOUT_END →
-      ((0 < h) × (h ≤ top) × (floor t a d ≤ h) × (h ≤ ceiling t a d) → ⊥) → one_more legs t u a full front d n top m e ≡ []
+  -- none where no height between the bounds leaves one
+  pub outside : (e h : ℕ) → d ≡ full + length front → h ≡ base_at legs u d + e → top ≤ WITHOUT_END →
+      ((0 < h) × (h ≤ top) × (floor t a d ≤ h) × (h ≤ ceiling t a d) → behind t a full (front ++ h ∷ []) (columns legs u (suc d) n h (m - e)) ≡ []) → one_more legs t u a full front d n top m e ≡ []
   unfolding one_more
-  outside e h at_d at_h w not_in =
+  outside e h at_d at_h w none =
       elim (cases_Bool (nat_lt 0 h && nat_le h top)) [
         | inl is_so ↦
             let parts = tests h top is_so in
-            rw (← at_h) (rw is_so (behind-outside t a full front h d (columns legs u (suc d) n h (m - e)) at_d w (λ within. not_in (parts.0, parts.1, within.0, within.1))))
+            rw (← at_h) (rw is_so (elim (cases_lt h (floor t a d)) [
+              | inl low ↦ behind-outside t a full front h d (columns legs u (suc d) n h (m - e)) at_d (omega (arith, parts.1)) (λ within. let above_floor = within.0 in omega arith)
+              | inr on ↦ elim (cases_lt (ceiling t a d) h) [
+                | inl high ↦ behind-outside t a full front h d (columns legs u (suc d) n h (m - e)) at_d (omega (arith, parts.1)) (λ within. let below_ceiling = within.1 in omega arith)
+                | inr under ↦ none (parts.0, parts.1, on, under)
+              ]
+            ]))
         | inr is_not ↦ rw (← at_h) (rw is_not refl)
       ]
 
-  here : (e h : ℕ) → h ≡ base_at legs u d + e → 0 < h → h ≤ top → one_more legs t u a full front d n top m e ≡ behind t a full (front ++ h ∷ []) (columns legs u (suc d) n h (m - e))
+  pub here : (e h : ℕ) → h ≡ base_at legs u d + e → 0 < h → h ≤ top → one_more legs t u a full front d n top m e ≡ behind t a full (front ++ h ∷ []) (columns legs u (suc d) n h (m - e))
   unfolding one_more
   here e h at_h p l = rw (← at_h) (rw (on h top p l) refl)
-
-  -- at the start, from the greatest height down
-  pub longer-start : (h : ℕ) (now : List Shape) → d ≡ full + length front → base_at legs u d + m < WITHOUT_END → h ≡ min (min top (base_at legs u d + m)) (ceiling t a d) →
-      now ++ flat_map (one_more legs t u a full front d n top m) (firsts ((h + 1) - base_at legs u d)) ≡ now ++ behind t a full front (longer legs u d n top m)
-  longer-start h now at_d small at_h =
-      ap (λ ss. now ++ ss) (sym (longer-parts legs t u a full front d n top m ∙ shorter))
-    where
-      none : (e : ℕ) → (h + 1) - base_at legs u d ≤ e → e < (suc m - ((h + 1) - base_at legs u d)) + ((h + 1) - base_at legs u d) → one_more legs t u a full front d n top m e ≡ []
-      none e low high = outside e (base_at legs u d + e) at_d refl (omega arith) (λ within. let below_top = within.1 in let below_ceiling = within.3 in omega arith)
-
-      shorter : flat_map (one_more legs t u a full front d n top m) (firsts (suc m)) ≡ flat_map (one_more legs t u a full front d n top m) (firsts ((h + 1) - base_at legs u d))
-      shorter =
-          let whole : suc m ≡ (suc m - ((h + 1) - base_at legs u d)) + ((h + 1) - base_at legs u d) = omega arith in
-          ap (λ j. flat_map (one_more legs t u a full front d n top m) (firsts j)) whole ∙ skip (one_more legs t u a full front d n top m) ((h + 1) - base_at legs u d) (suc m - ((h + 1) - base_at legs u d)) none
-
-  pub longer-next : (h : ℕ) (now before whole : List Shape) → base_at legs u d ≤ h → 0 < h → h ≤ top →
-      now ≡ before ++ behind t a full (front ++ h ∷ []) (columns legs u (suc d) n h (m - (h - base_at legs u d))) →
-      before ++ flat_map (one_more legs t u a full front d n top m) (firsts ((h + 1) - base_at legs u d)) ≡ whole →
-      now ++ flat_map (one_more legs t u a full front d n top m) (firsts (((h - 1) + 1) - base_at legs u d)) ≡ whole
-  longer-next h now before whole low p l push far =
-      let first : (h + 1) - base_at legs u d ≡ suc (h - base_at legs u d) = omega arith in
-      let rest : ((h - 1) + 1) - base_at legs u d ≡ h - base_at legs u d = omega arith in
-      let P = one_more legs t u a full front d n top m in
-      ap (λ ss. ss ++ flat_map P (firsts (((h - 1) + 1) - base_at legs u d))) (push ∙ ap (λ ss. before ++ ss) (sym (here (h - base_at legs u d) h (omega arith) p l)))
-      ∙ (ap (λ j. (before ++ P (h - base_at legs u d)) ++ flat_map P (firsts j)) rest
-      ∙ (append_assoc before (P (h - base_at legs u d)) (flat_map P (firsts (h - base_at legs u d)))
-      ∙ (ap (λ j. before ++ flat_map P (firsts j)) (sym first) ∙ far)))
-
-  pub longer-end : (h : ℕ) (now whole : List Shape) → d ≡ full + length front → h < max (max (base_at legs u d) 1) (floor t a d) → h ≤ WITHOUT_END →
-      now ++ flat_map (one_more legs t u a full front d n top m) (firsts ((h + 1) - base_at legs u d)) ≡ whole → now ≡ whole
-  longer-end h now whole at_d low w far =
-      sym (append-nil now) ∙ (ap (λ ss. now ++ ss) (sym (all_empty (one_more legs t u a full front d n top m) ((h + 1) - base_at legs u d) none)) ∙ far)
-    where
-      none : (e : ℕ) → e < (h + 1) - base_at legs u d → one_more legs t u a full front d n top m e ≡ []
-      none e l = outside e (base_at legs u d + e) at_d refl (omega arith) (λ within. let some = within.0 in let above_floor = within.2 in omega arith)

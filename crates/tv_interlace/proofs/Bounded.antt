@@ -1,8 +1,9 @@
 -- A column of a neighbour that interlaces stands between the bounds.
 use Rattle.std.proofs.Common.{◌≡◌, ℕ, zero, suc, ◌+◌, ◌-◌, ◌<◌, ◌≤◌, ℤ, pos, negsuc, Bool, true, false, cond, ◌&&◌, ◌||◌, nat_lt, nat_le, List, [], ◌∷◌, ◌++◌, map, length, max, arith, refl, ap, ◌∙◌, sym, length-append, inl, inr}
 use Rattle.std.specs.Prelude.{filter, slice_index}
-use Rattle.std.proofs.lemmas.Bool.{cases_Bool}
+use Rattle.std.proofs.lemmas.Bool.{cases_Bool, cases_lt, le-ltb, lt-leb}
 use Rattle.std.proofs.lemmas.Bool.Decides.{nat_tests}
+use Rattle.tv_partition.proofs.Shapes.{row-past}
 use Rattle.tv_lemmas.proofs.Lists.{filter-map, filter-none}
 use Rattle.tv_spec_slices.specs.Slices.{Shape, at, reach, interlaces_at, interlaces}
 use Rattle.tv_spec_slices.specs.Paths.{shape}
@@ -67,3 +68,23 @@ behind-outside t a full front h d lists e w outside =
               absurd (outside (rw column at bounds))
           | inr none ↦ none
         ]
+
+-- past the last column of either, a floor is 0
+pub floor-past : (t : ℤ) (a b : Shape) (d : ℕ) → interlaces t a b ≡ true → reach b ≤ d → floor t a d ≡ 0
+floor-past t a b d on past = elim (cases_lt d (max (reach a) (reach b))) [
+  | inl l ↦ let above = here t on l in let none = row-past b.heights (d - b.full) (omega arith) in omega arith
+  | inr m ↦ nothing t (omega arith)
+]
+  where
+    here : (t : ℤ) → interlaces t a b ≡ true → d < max (reach a) (reach b) → floor t a d ≤ at b d
+    here (pos n) on l = least d b.full (suc d) a.full (at b d) (at a (suc d)) WITHOUT_END (omega arith) (and-right _ _ (all-at (max (reach a) (reach b)) (interlaces_at (pos n) a b) on d l))
+    here (negsuc n) on l = least d b.full d a.full (at b d) (at a d) WITHOUT_END (omega arith) (and-left _ _ (all-at (max (reach a) (reach b)) (interlaces_at (negsuc n) a b) on d l))
+
+    nothing : (t : ℤ) → reach a ≤ d → floor t a d ≡ 0
+    nothing (pos n) m = rw (le-ltb (suc d) a.full (omega arith), row-past a.heights (suc d - a.full) (omega arith)) refl
+    nothing (negsuc n) m = rw (le-ltb d a.full (omega arith), row-past a.heights (d - a.full) (omega arith)) refl
+
+-- past the last column of a, so is a ceiling
+pub ceiling-past : (t : ℤ) (a : Shape) (d : ℕ) → reach a < d → ceiling t a d ≡ 0
+ceiling-past (pos n) a d l = rw (le-ltb d a.full (omega arith), row-past a.heights (d - a.full) (omega arith)) refl
+ceiling-past (negsuc n) a d l = rw (lt-leb d a.full (omega arith), row-past a.heights (d - 1 - a.full) (omega arith)) refl

@@ -1,3 +1,4 @@
 pub mod Places
 pub mod Bounds
+pub mod Rooms
 pub mod Columns

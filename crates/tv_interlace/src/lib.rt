@@ -7,6 +7,7 @@ pub mod completion;
 pub mod diagonal;
 pub mod interlacing;
 pub mod next;
+mod rooms;
 pub mod slice;
 #[cfg(test)]
 mod tests;

@@ -1,12 +1,16 @@
-//! The slices beside one, on the diagonal above it. Only columns of heights that it lets stand are tried.
+//! The slices beside one, on the diagonal above it. A column is tried only at heights between the bounds that the other slice
+//! sets, and only where the columns behind it have room for the extras that are left.
 
 ghost use Rattle.std.specs.Prelude.{◌≡◌, ℕ, suc, ◌+◌, ◌-◌, ◌<◌, ◌≤◌, ◌^◌, [], ◌∷◌, ◌++◌, ◌&&◌, cond, nat_eq, pos, ◌+ℤ◌, length, unsigned_abs, IfOk, OnOk};
 ghost use Rattle.tv_spec_slices.specs.Slices.{base_at};
 ghost use Rattle.tv_spec_slices.specs.Paths.{columns, next_of};
+ghost use Rattle.tv_cells.specs.Extras.{extent};
 ghost use Rattle.tv_interlace.specs.Columns.{behind, longer};
+ghost use Rattle.tv_interlace.specs.Rooms.{IsRoom};
 
+use crate::rooms::{Room, highest, lowest, room_after, room_from};
 use crate::slice::Slice;
-use crate::{bounds, diagonal, interlacing};
+use crate::{diagonal, interlacing};
 use std::alloc::{AllocError, Global};
 use tv_cells::legs::Legs;
 
@@ -26,26 +30,54 @@ pub fn next_slices(
 {
     let full = diagonal::full_of(legs, t + 1);
     let base = diagonal::base_at(legs, t + 1, full);
+    let room = room_from(legs, a, t, full);
     let mut all = Vec::new(alloc);
     for extras in 0..budget + 1 {
-        let mut front = Vec::new(alloc);
-        push_columns(
-            &mut all,
-            &mut front,
-            legs,
-            a,
-            t,
-            full,
-            legs.extent() + extras,
-            base + extras,
-            extras,
-        )?;
+        push_extras(&mut all, legs, a, t, full, base, extras, room)?;
     }
     Ok(all)
 }
 
+/// Those of them with that many extras.
+fn push_extras(
+    all: &mut Vec<Slice>,
+    legs: &Legs,
+    a: &Slice,
+    t: i32,
+    full: u32,
+    base: u32,
+    extras: u32,
+    room: Room,
+) -> Result<(), AllocError>
+    requires diagonal { unsigned_abs t < 2 ^ 30 }
+    requires few { extras < 2 ^ 30 }
+    requires front { full ≤ 24 }
+    requires low { base ≤ 24 }
+    requires room { IsRoom legs.now t a.now full room }
+    ensures { OnOk result (all.new.items ≡ all.old.items ++ behind t a.now full [] (columns legs.now (t +ℤ pos 1) full (extent legs.now + extras) (base + extras) extras)) }
+{
+    let left = legs.extent() + extras;
+    let count = u64::from(extras);
+    if count < room.least || room.most < count {
+        return Ok(());
+    }
+    let mut front = Vec::new(*all.allocator());
+    push_columns(
+        all,
+        &mut front,
+        legs,
+        a,
+        t,
+        full,
+        left,
+        base + extras,
+        extras,
+        room,
+    )
+}
+
 /// Behind the heights in front, all columns that interlace with a: at most `left` of them, none above `top`, with that many
-/// extras.
+/// extras, for which there is room.
 #[cycle(columns)]
 fn push_columns(
     all: &mut Vec<Slice>,
@@ -57,10 +89,14 @@ fn push_columns(
     left: u32,
     top: u32,
     extras: u32,
+    room: Room,
 ) -> Result<(), AllocError>
     requires diagonal { unsigned_abs t < 2 ^ 30 }
     requires short { full + (length front.old.items + left) < 2 ^ 31 }
     requires few { extras ≤ 2 ^ 30 }
+    requires room { IsRoom legs.now t a.now (full + length front.old.items) room }
+    requires some { room.least ≤ extras }
+    requires most { extras ≤ room.most }
     ensures all { OnOk result (all.new.items ≡ all.old.items ++ behind t a.now full front.old.items (columns legs.now (t +ℤ pos 1) (full + length front.old.items) left top extras)) }
     ensures front { OnOk result (front.new.items ≡ front.old.items) }
 {
@@ -68,7 +104,7 @@ fn push_columns(
         return push_ended(all, front.as_slice(), a, t, full, extras == 0);
     }
     let ends = may_end(legs, t + 1, full + front.len() as u32, extras);
-    push_longer(all, front, legs, a, t, full, left - 1, top, extras)?;
+    push_longer(all, front, legs, a, t, full, left - 1, top, extras, room)?;
     push_ended(all, front.as_slice(), a, t, full, ends)
 }
 
@@ -84,17 +120,22 @@ fn push_longer(
     left: u32,
     top: u32,
     extras: u32,
+    room: Room,
 ) -> Result<(), AllocError>
     requires diagonal { unsigned_abs t < 2 ^ 30 }
     requires short { full + (length front.old.items + (left + 1)) < 2 ^ 31 }
     requires few { extras ≤ 2 ^ 30 }
+    requires room { IsRoom legs.now t a.now (full + length front.old.items) room }
+    requires some { room.least ≤ extras }
+    requires most { extras ≤ room.most }
     ensures all { OnOk result (all.new.items ≡ all.old.items ++ behind t a.now full front.old.items (longer legs.now (t +ℤ pos 1) (full + length front.old.items) left top extras)) }
     ensures front { OnOk result (front.new.items ≡ front.old.items) }
 {
     let d = full + front.len() as u32;
     let base = diagonal::base_at(legs, t + 1, d);
-    let least = base.max(1).max(bounds::floor(a, t, d));
-    let mut height = top.min(base + extras).min(bounds::ceiling(a, t, d));
+    let after = room_after(room, legs, a, t, d);
+    let least = lowest(legs, a, t, d, extras, after);
+    let mut height = top.min(highest(legs, a, t, d, extras, after));
     while height >= least {
         push_after(
             all,
@@ -106,6 +147,7 @@ fn push_longer(
             left,
             height,
             extras - (height - base),
+            after,
         )?;
         height -= 1;
     }
@@ -124,15 +166,19 @@ fn push_after(
     left: u32,
     height: u32,
     extras: u32,
+    room: Room,
 ) -> Result<(), AllocError>
     requires diagonal { unsigned_abs t < 2 ^ 30 }
     requires short { full + (length front.old.items + (left + 1)) < 2 ^ 31 }
     requires few { extras ≤ 2 ^ 30 }
+    requires room { IsRoom legs.now t a.now (suc (full + length front.old.items)) room }
+    requires some { room.least ≤ extras }
+    requires most { extras ≤ room.most }
     ensures all { OnOk result (all.new.items ≡ all.old.items ++ behind t a.now full (front.old.items ++ height ∷ []) (columns legs.now (t +ℤ pos 1) (suc (full + length front.old.items)) left height extras)) }
     ensures front { OnOk result (front.new.items ≡ front.old.items) }
 {
     front.push(height)?;
-    push_columns(all, front, legs, a, t, full, left, height, extras)?;
+    push_columns(all, front, legs, a, t, full, left, height, extras, room)?;
     let _ = front.pop();
     Ok(())
 }

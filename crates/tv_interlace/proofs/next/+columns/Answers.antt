@@ -1,12 +1,15 @@
 use Rattle.std.proofs.Common.{◌≡◌, ℕ, suc, ◌+◌, ◌-◌, ◌<◌, ◌≤◌, ◌++◌, ◌∷◌, [], List, pos, ◌+ℤ◌, min, max, length, ap, arith, refl, sym, ◌∙◌, subst, rules}
 use Rattle.std.specs.Prelude.{OnOk, cond, ◌&&◌, nat_eq}
 use Rattle.std.proofs.lemmas.Int.{to_z-of_z}
-use Rattle.tv_spec_slices.specs.Slices.{Shape, base_at}
+use Rattle.tv_spec_slices.specs.Slices.{Shape, reach, base_at}
 use Rattle.tv_spec_slices.specs.Paths.{columns}
 use Rattle.tv_interlace.specs.Bounds.{floor, ceiling}
 use Rattle.tv_interlace.specs.Columns.{behind}
+use Rattle.tv_interlace.specs.Rooms.{low, open_from, IsRoom}
+use Rattle.tv_interlace.proofs.OpenPlaces.{open-after}
 use Rattle.tv_interlace.proofs.Up.{up-fits}
-use Rattle.tv_interlace.proofs.Beside.{columns-none, columns-joined, longer-start, longer-next, longer-end}
+use Rattle.tv_interlace.proofs.Beside.{columns-none, columns-joined}
+use Rattle.tv_interlace.proofs.Longer.{longer-start, longer-next, longer-end}
 use Rattle.tv_interlace.proofs.next.+columns.Goals as goal
 
 pub push_columns-returns-then-left-eq0-clause-all :
@@ -42,18 +45,41 @@ push_longer-loop-height-init t c =
     let up = up-fits c.args.t c.requires.diagonal in
     let u = c.args.t +ℤ pos 1 in
     let d = c.args.full + length c.args.front.now.items in
-    let base : c.base_at-base.result ≡ base_at c.args.legs.now u d = simp to_z-of_z at c.base_at-base.ensures.value ∙ ap (λ n. base_at c.args.legs.now u (c.args.full + n)) len in
-    let top : c.ceiling.result ≡ ceiling c.args.t c.args.a.now d = simp to_z-of_z at c.ceiling.ensures ∙ ap (λ n. ceiling c.args.t c.args.a.now (c.args.full + n)) len in
-    let small : c.base_at-base.result + c.args.extras < 4294967295 = omega (arith, c.base_at-base.ensures.bound) in
-    let P : ℕ → Type 0 = λ b. b + c.args.extras < 4294967295 in
+    let first = simp to_z-of_z at c.base_at-base.ensures.value in
+    let base : c.base_at-base.result ≡ base_at c.args.legs.now u d = first ∙ ap (λ n. base_at c.args.legs.now u (c.args.full + n)) len in
+    let after : IsRoom c.args.legs.now c.args.t c.args.a.now (suc d) c.room_after-after.result = subst (λ n. IsRoom c.args.legs.now c.args.t c.args.a.now (suc (c.args.full + n)) c.room_after-after.result) len (simp to_z-of_z at c.room_after-after.ensures) in
+    let top : c.highest.result ≡ min (base_at c.args.legs.now u d + (c.args.extras - c.room_after-after.result.least)) (ceiling c.args.t c.args.a.now d) =
+    simp to_z-of_z at c.highest.ensures ∙ ap (λ n. min (base_at c.args.legs.now u (c.args.full + n) + (c.args.extras - c.room_after-after.result.least)) (ceiling c.args.t c.args.a.now (c.args.full + n))) len in
     record {
       kept = refl;
-      within_top = omega arith;
-      within_extras = omega arith;
-      slices = simp to_z-of_z (longer-start c.args.legs.now c.args.t u c.args.a.now c.args.full c.args.front.now.items d c.args.left c.args.top c.args.extras c.min-height.result c.args.all.now.items refl
-          (subst P base small)
-          (c.min-height.ensures ∙ (ap (λ x. min x c.ceiling.result) (c.min.ensures ∙ ap (λ b. min c.args.top (b + c.args.extras)) base) ∙ ap (min (min c.args.top (base_at c.args.legs.now u d + c.args.extras))) top)));
+      within_top = omega (arith, c.min-height.ensures);
+      within_room = omega (arith, c.min-height.ensures, top, base);
+      slices = simp to_z-of_z (longer-start c.args.legs.now c.args.t c.args.a.now c.args.full c.args.front.now.items d c.args.left c.args.top c.args.extras c.min-height.result c.room_after-after.result.least c.args.all.now.items refl
+          (omega arith) after.least (c.min-height.ensures ∙ ap (min c.args.top) top));
     }
+
+pub push_longer-push_after-requires : goal.push_longer-push_after-requires
+push_longer-push_after-requires t c =
+    let len : c.len.result ≡ length c.args.front.now.items = search rules in
+    let fits = c.ranges.t in
+    let up = up-fits c.args.t c.requires.diagonal in
+    let d = c.args.full + length c.args.front.now.items in
+    let L = low c.args.legs.now c.args.t c.args.a.now in
+    let n = suc (reach c.args.a.now) in
+    let room = c.room_after-after.result in
+    let after : IsRoom c.args.legs.now c.args.t c.args.a.now (suc d) room = subst (λ n. IsRoom c.args.legs.now c.args.t c.args.a.now (suc (c.args.full + n)) room) len (simp to_z-of_z at c.room_after-after.ensures) in
+    let first = simp to_z-of_z at c.base_at-base.ensures.value in
+    let least = simp to_z-of_z at c.lowest-least.ensures in
+    let kept : length c.loop-height.front.items ≡ length c.args.front.now.items = ap (length {A = ℕ}) c.loop-height.invariant.kept in
+    let some = fewer (open_from L d n) (L d) room.least c.args.room.least c.args.extras c.loop-height.height c.base_at-base.result (after.least ∙ sym (open-after L d n)) c.requires.room.least c.requires.some c.loop-height.invariant.within_room in
+    let most = more _ 1 _ room.most c.args.extras c.loop-height.height c.base_at-base.result c.lowest-least.result first least c.loop-height-test.true in
+    (search rules, (simp to_z-of_z c.requires.diagonal, (omega (arith, kept, c.requires.short), (omega (arith, c.requires.few), (simp to_z-of_z (subst (λ k. IsRoom c.args.legs.now c.args.t c.args.a.now (suc (c.args.full + k)) room) (sym kept) after), (some, most))))))
+  where
+    fewer : (w x least room extras h base : ℕ) → least ≡ w - x → room ≡ w → room ≤ extras → h ≤ base + (extras - least) → least ≤ extras - (h - base)
+    fewer w x least room extras h base e f l m = omega arith
+
+    more : (b one low most extras h base least : ℕ) → base ≡ b → least ≡ max (max (max b one) low) (b + (extras - most)) → least ≤ h → extras - (h - base) ≤ most
+    more b one low most extras h base least e f l = omega arith
 
 pub push_longer-loop-height-preserved : goal.push_longer-loop-height-preserved
 push_longer-loop-height-preserved t c =
@@ -63,16 +89,19 @@ push_longer-loop-height-preserved t c =
     let u = c.args.t +ℤ pos 1 in
     let d = c.args.full + length c.args.front.now.items in
     let h = c.loop-height.height in
-    let base : c.base_at-base.result ≡ base_at c.args.legs.now u d = simp to_z-of_z at c.base_at-base.ensures.value ∙ ap (λ n. base_at c.args.legs.now u (c.args.full + n)) len in
+    let first = simp to_z-of_z at c.base_at-base.ensures.value in
+    let base : c.base_at-base.result ≡ base_at c.args.legs.now u d = first ∙ ap (λ n. base_at c.args.legs.now u (c.args.full + n)) len in
+    let least = simp to_z-of_z at c.lowest-least.ensures in
     let after = simp to_z-of_z at c.in_ok-push_after.ensures.all in
-    let low : c.base_at-base.result ≤ h = omega arith in
+    let low : c.base_at-base.result ≤ h = omega (arith, first, least, c.loop-height-test.true) in
+    let some : 0 < h = omega (arith, least, c.loop-height-test.true) in
     let P : ℕ → Type 0 = λ b. b ≤ h in
     record {
       kept = c.in_ok-push_after.ensures.front ∙ c.loop-height.invariant.kept;
       within_top = omega (arith, c.loop-height.invariant.within_top);
-      within_extras = omega (arith, c.loop-height.invariant.within_extras);
-      slices = simp to_z-of_z (longer-next c.args.legs.now c.args.t u c.args.a.now c.args.full c.args.front.now.items d c.args.left c.args.top c.args.extras h c.push_after.new.all.items c.loop-height.all.items _
-          (subst P base low) (omega arith) c.loop-height.invariant.within_top
+      within_room = omega (arith, c.loop-height.invariant.within_room);
+      slices = simp to_z-of_z (longer-next c.args.legs.now c.args.t c.args.a.now c.args.full c.args.front.now.items d c.args.left c.args.top c.args.extras h c.push_after.new.all.items c.loop-height.all.items _
+          (subst P base low) some c.loop-height.invariant.within_top
           (after
           ∙ (ap (λ f. c.loop-height.all.items ++ behind c.args.t c.args.a.now c.args.full (f ++ h ∷ []) (columns c.args.legs.now u (suc (c.args.full + length f)) c.args.left h (c.args.extras - (h - c.base_at-base.result)))) c.loop-height.invariant.kept
           ∙ ap (λ b. c.loop-height.all.items ++ behind c.args.t c.args.a.now c.args.full (c.args.front.now.items ++ h ∷ []) (columns c.args.legs.now u (suc d) c.args.left h (c.args.extras - (h - b)))) base))
@@ -86,9 +115,9 @@ push_longer-returns-clause-all t c =
     let up = up-fits c.args.t c.requires.diagonal in
     let u = c.args.t +ℤ pos 1 in
     let d = c.args.full + length c.args.front.now.items in
-    let base : c.base_at-base.result ≡ base_at c.args.legs.now u d = simp to_z-of_z at c.base_at-base.ensures.value ∙ ap (λ n. base_at c.args.legs.now u (c.args.full + n)) len in
-    let low : c.floor.result ≡ floor c.args.t c.args.a.now d = simp to_z-of_z at c.floor.ensures ∙ ap (λ n. floor c.args.t c.args.a.now (c.args.full + n)) len in
-    let least : c.max-least.result ≡ max (max (base_at c.args.legs.now u d) 1) (floor c.args.t c.args.a.now d) = c.max-least.ensures ∙ (ap (λ x. max x c.floor.result) (c.max.ensures ∙ ap (λ b. max b 1) base) ∙ ap (max (max (base_at c.args.legs.now u d) 1)) low) in
+    let after : IsRoom c.args.legs.now c.args.t c.args.a.now (suc d) c.room_after-after.result = subst (λ n. IsRoom c.args.legs.now c.args.t c.args.a.now (suc (c.args.full + n)) c.room_after-after.result) len (simp to_z-of_z at c.room_after-after.ensures) in
+    let lowest : ℕ → ℕ = λ d. max (max (max (base_at c.args.legs.now u d) 1) (floor c.args.t c.args.a.now d)) (base_at c.args.legs.now u d + (c.args.extras - c.room_after-after.result.most)) in
+    let least : c.lowest-least.result ≡ lowest d = simp to_z-of_z at c.lowest-least.ensures ∙ ap (λ n. lowest (c.args.full + n)) len in
     let P : ℕ → Type 0 = λ n. c.loop-height.height < n in
-    longer-end c.args.legs.now c.args.t u c.args.a.now c.args.full c.args.front.now.items d c.args.left c.args.top c.args.extras c.loop-height.height c.loop-height.all.items _ refl
-    (subst P least c.loop-height-test.false) (omega arith) (simp to_z-of_z at c.loop-height.invariant.slices)
+    longer-end c.args.legs.now c.args.t c.args.a.now c.args.full c.args.front.now.items d c.args.left c.args.top c.args.extras c.loop-height.height c.room_after-after.result.most c.loop-height.all.items _ refl (omega arith) after.most
+    (subst P least c.loop-height-test.false) (simp to_z-of_z at c.loop-height.invariant.slices)

@@ -17,7 +17,7 @@ abbrev pub invariant-push_longer-loop-height : goal.invariant-push_longer-loop-h
 invariant-push_longer-loop-height l = record {
   kept : l.front.items ≡ l.initial.front.items;
   within_top : l.height ≤ l.top;
-  within_extras : l.height ≤ l.base + l.extras;
+  within_room : l.height ≤ l.base + (l.extras - l.after.least);
   slices : l.all.items ++ flat_map (one_more l.legs l.t (l.t +ℤ pos 1) l.a l.full l.initial.front.items (l.full + length l.initial.front.items) l.left l.top l.extras) (firsts ((l.height + 1) - base_at l.legs (l.t +ℤ pos 1) (l.full + length l.initial.front.items)))
       ≡ l.initial.all.items ++ behind l.t l.a l.full l.initial.front.items (longer l.legs (l.t +ℤ pos 1) (l.full + length l.initial.front.items) l.left l.top l.extras);
 }

@@ -20,14 +20,9 @@ loop-extras-preserved c =
     let u = c.args.t +ℤ pos 1 in
     let full : c.full_of-full.result ≡ full_of c.args.legs.now u (extent c.args.legs.now) = simp to_z-of_z at c.full_of-full.ensures.value in
     let base : c.base_at-base.result ≡ base_at c.args.legs.now u c.full_of-full.result = simp to_z-of_z at c.base_at-base.ensures.value in
-    let pushed = simp to_z-of_z at c.in_ok-push_columns.ensures.all in
+    let pushed = simp to_z-of_z at c.in_ok-push_extras.ensures in
     let k = c.loop-extras.extras in
-    let place : c.full_of-full.result + 0 ≡ c.full_of-full.result = omega arith in
-    simp to_z-of_z (slices-next c.args.legs.now c.args.t u c.args.a.now c.full_of-full.result c.base_at-base.result k _ c.push_columns.new.all.items c.loop-extras.all.items _ c.loop-extras-test.true full base
-    (pushed
-    ∙ (ap (λ f. c.loop-extras.all.items ++ behind c.args.t c.args.a.now c.full_of-full.result f (columns c.args.legs.now u (c.full_of-full.result + length f) (c.extent.result + k) (c.base_at-base.result + k) k)) c.new-front.ensures.items
-    ∙ (ap (λ d. c.loop-extras.all.items ++ behind c.args.t c.args.a.now c.full_of-full.result [] (columns c.args.legs.now u d (c.extent.result + k) (c.base_at-base.result + k) k)) place
-    ∙ ap (λ e. c.loop-extras.all.items ++ behind c.args.t c.args.a.now c.full_of-full.result [] (columns c.args.legs.now u c.full_of-full.result (e + k) (c.base_at-base.result + k) k)) c.extent.ensures.value)))
+    simp to_z-of_z (slices-next c.args.legs.now c.args.t u c.args.a.now c.full_of-full.result c.base_at-base.result k _ c.push_extras.new.all.items c.loop-extras.all.items _ c.loop-extras-test.true full base pushed
     (simp to_z-of_z at c.loop-extras.invariant))
 
 pub returns : goal.returns
