@@ -16,7 +16,6 @@ below = refl
 below_second : remainder second_modulus (negsuc 97) ≡ 998244255
 below_second = refl
 
-<<<<<<< HEAD
 -- below 0 and beyond the modulus
 below_far : remainder first_modulus (negsuc 1000000011) ≡ 1000000002
 below_far = refl
@@ -24,8 +23,6 @@ below_far = refl
 below_far_second : remainder second_modulus (negsuc 1000000011) ≡ 996488694
 below_far_second = refl
 
-=======
->>>>>>> 62f0fb590ec3748042cc203d08a5791f2895a33e
 -- a whole multiple leaves none
 multiple : remainder second_modulus (negsuc 998244352) ≡ 0
 multiple = refl
@@ -36,7 +33,6 @@ term n r s = record { exponent = n; first = r; second = s }
 grid_section : ResidueSection
 grid_section = record { degree = pos 0; entries = pos 0 ∷ pos 0 ∷ []; terms = term (pos 0) 1 1 ∷ term (pos 1) 999999909 998244255 ∷ term (pos 2) 5047 5047 ∷ [] }
 
-<<<<<<< HEAD
 grid_report : residues_text (codes "full") (pos 0 ∷ negsuc 0 ∷ []) (pos 0) (pos 2) (grid_section ∷ []) ≡ codes "report series full residues 1000000007 998244353\nheights 0 -1\ndegree 0\nupto 2\nclass 0 0 0\nterm 0 1 1\nterm 1 999999909 998244255\nterm 2 5047 5047\nend\n"
 unfolding line_text digits grid_section term
 grid_report = refl
@@ -51,8 +47,3 @@ curve_report = refl
 
 of_first : remainder second_modulus (pos 1000000007) ≡ 1755654
 of_first = refl
-=======
-grid_report : residues_text (codes "full") (pos 0 ∷ negsuc 0 ∷ []) (pos 0) (pos 64) (grid_section ∷ []) ≡ codes "report series full residues 1000000007 998244353\nheights 0 -1\ndegree 0\nupto 64\nclass 0 0 0\nterm 0 1 1\nterm 1 999999909 998244255\nterm 2 5047 5047\nend\n"
-unfolding line_text digits grid_section term
-grid_report = refl
->>>>>>> 62f0fb590ec3748042cc203d08a5791f2895a33e

@@ -1,4 +1,3 @@
-<<<<<<< HEAD
 -- The report of a series by residues: of each coefficient its remainders modulo two primes, where these aren't both 0.
 --
 -- first_modulus, second_modulus == 1000000007 and 998244353
@@ -6,14 +5,6 @@
 -- ResidueTerm        == an exponent and the two remainders of its coefficient
 -- ResidueSection     == a class by its degree and entries, and the terms of its series
 -- RiseBy ts          == the exponents rise
-=======
--- The report of a series by residues: of each coefficient its remainders modulo two primes.
---
--- first_modulus, second_modulus == 1000000007 and 998244353
--- remainder m z      == the least remainder of z modulo m, from 0 to m - 1, of a number m of at least 1
--- ResidueTerm        == an exponent and the two remainders of its coefficient
--- ResidueSection     == a class by its degree and entries, and the terms of its series
->>>>>>> 62f0fb590ec3748042cc203d08a5791f2895a33e
 -- AreBothZero r s    == both remainders are 0
 -- IsResidueTerm f upto t == the exponent is at most upto, the remainders are those of the value of f there, and not both are 0
 -- AreResidueTerms f upto ts == the exponents through upto at which the remainders of f aren't both 0, rising, each with both
