@@ -1,8 +1,8 @@
 -- What the open places of a neighbour can have: where fewer extras are left than the least, or more than the most, there is
 -- none.
 use Rattle.std.proofs.Common.{◌≡◌, ℕ, zero, suc, ◌+◌, ◌-◌, ◌<◌, ◌≤◌, ℤ, pos, ◌+ℤ◌, Bool, true, false, cond, ◌&&◌, nat_eq, List, [], ◌∷◌, ◌++◌, length, arith, refl, sym, ◌∙◌, ap, append-nil, length-append, inl, inr}
-use Rattle.std.specs.Prelude.{◌⊎◌, filter}
-use Rattle.std.specs.List.{flat_map, range_with_len}
+use Rattle.std.specs.Prelude.{◌⊎◌}
+use Rattle.std.specs.List.{range_with_len}
 use Rattle.std.proofs.lemmas.Bool.{cases_Bool, cases_lt}
 use Rattle.std.proofs.lemmas.Bool.Decides.{nat_tests}
 use Rattle.tv_lemmas.specs.Sums.{sum_of}
@@ -12,7 +12,7 @@ use Rattle.tv_spec_slices.specs.Slices.{Shape, reach, base_at, interlaces}
 use Rattle.tv_spec_slices.specs.Paths.{columns, shape}
 use Rattle.tv_interlace.specs.declared.bounds.TheConstants.{WITHOUT_END}
 use Rattle.tv_interlace.specs.Bounds.{floor, ceiling}
-use Rattle.tv_interlace.specs.Columns.{behind, longer, one_more, firsts}
+use Rattle.tv_interlace.specs.Columns.{behind, longer, one_more}
 use Rattle.tv_interlace.specs.Rooms.{low, high, open_from}
 use Rattle.tv_interlace.proofs.Bounded.{floor-past, ceiling-past}
 use Rattle.tv_interlace.proofs.Beside.{behind-append, behind-none, longer-parts, all_empty, outside}

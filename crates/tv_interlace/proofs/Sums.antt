@@ -1,5 +1,5 @@
 -- Sums over the first numbers, as they are added up: what is added and what is left make the whole.
-use Rattle.std.proofs.Common.{◌≡◌, ℕ, ◌+◌, ◌-◌, ◌<◌, refl, sym, ◌∙◌, ap, arith}
+use Rattle.std.proofs.Common.{◌≡◌, ℕ, ◌+◌, ◌-◌, ◌<◌, ap, arith}
 use Rattle.std.specs.List.{range_with_len}
 use Rattle.tv_lemmas.specs.Sums.{sum_of}
 use Rattle.tv_cells.proofs.Diagonals.{numbers-next, numbers-none}

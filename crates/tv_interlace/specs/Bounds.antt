@@ -3,7 +3,7 @@
 -- WITHOUT_END     == higher than every column that is listed
 -- floor t a d     == the least height at place d
 -- ceiling t a d   == the greatest one
-use Rattle.std.specs.Prelude.{ℕ, suc, ◌-◌, ◌^◌, ℤ, pos, negsuc, cond, nat_lt, nat_le}
+use Rattle.std.specs.Prelude.{ℕ, suc, ◌-◌, ℤ, pos, negsuc, cond, nat_lt, nat_le}
 use Rattle.tv_spec_slices.specs.Slices.{Shape, at}
 use Rattle.tv_interlace.specs.declared.bounds.TheConstants.{WITHOUT_END}
 

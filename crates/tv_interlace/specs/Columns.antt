@@ -5,7 +5,7 @@
 -- longer legs t d n top m == of the lists in columns legs t d (suc n) top m those that don't end at once
 -- one_more legs t u a full front d n top m e == behind front those whose first column is e above the legs at u
 -- firsts n        == n - 1, .., 1, 0
-use Rattle.std.specs.Prelude.{ℕ, zero, suc, ◌+◌, ◌-◌, ℤ, Bool, cond, ◌&&◌, List, [], ◌∷◌, ◌++◌, map, filter, nat_lt, nat_le}
+use Rattle.std.specs.Prelude.{ℕ, zero, suc, ◌+◌, ◌-◌, ℤ, cond, ◌&&◌, List, [], ◌∷◌, ◌++◌, map, filter, nat_lt, nat_le}
 use Rattle.std.specs.List.{flat_map}
 use Rattle.tv_cells.specs.declared.legs.Legs.{Legs}
 use Rattle.tv_spec_slices.specs.Slices.{Shape, base_at, interlaces}

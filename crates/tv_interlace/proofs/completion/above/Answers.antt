@@ -1,4 +1,4 @@
-use Rattle.std.proofs.Common.{◌≡◌, ◌+◌, ap, arith, sym, ◌∙◌}
+use Rattle.std.proofs.Common.{◌+◌, ap, arith, ◌∙◌}
 use Rattle.tv_interlace.specs.Places.{beside}
 use Rattle.tv_interlace.proofs.Sums.{sum-next}
 use Rattle.tv_interlace.proofs.completion.above.Goals as goal

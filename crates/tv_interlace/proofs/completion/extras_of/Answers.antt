@@ -1,4 +1,4 @@
-use Rattle.std.proofs.Common.{◌≡◌, ◌+◌, ap, arith, sym, ◌∙◌, SFits, w32}
+use Rattle.std.proofs.Common.{◌+◌, ap, arith, ◌∙◌}
 use Rattle.std.proofs.lemmas.Int.{to_z-of_z}
 use Rattle.tv_interlace.specs.Places.{extra}
 use Rattle.tv_interlace.proofs.Sums.{sum-next}

@@ -1,7 +1,7 @@
-use Rattle.std.proofs.Common.{◌≡◌, sym, ◌∙◌, ap, max, arith}
+use Rattle.std.proofs.Common.{sym, ◌∙◌, max, arith}
 use Rattle.std.proofs.lemmas.Int.{to_z-of_z}
 use Rattle.tv_spec_slices.specs.Slices.{reach, interlaces_at}
-use Rattle.tv_interlace.proofs.Tested.{all-fails, all-next}
+use Rattle.tv_interlace.proofs.Tested.{all-fails}
 use Rattle.tv_interlace.proofs.interlacing.interlaces.Goals as goal
 
 pub returns-then-not-interlaces_at : goal.returns-then-not-interlaces_at

@@ -1,9 +1,8 @@
-use Rattle.std.proofs.Common.{◌≡◌, ◌+◌, ◌++◌, ℤ, w32, subst, pos, ◌+ℤ◌, length, [], ap, arith, sym, ◌∙◌}
+use Rattle.std.proofs.Common.{◌≡◌, ◌+◌, ◌++◌, ℤ, w32, subst, pos, ◌+ℤ◌, arith, sym}
 use Rattle.std.proofs.lemmas.Int.{to_z-of_z}
 use Rattle.tv_cells.specs.Extras.{extent}
 use Rattle.tv_spec_slices.specs.Slices.{base_at}
-use Rattle.tv_spec_slices.specs.Paths.{columns, full_of, next_of}
-use Rattle.tv_interlace.specs.Columns.{behind}
+use Rattle.tv_spec_slices.specs.Paths.{full_of, next_of}
 use Rattle.tv_interlace.proofs.Up.{up-fits}
 use Rattle.tv_interlace.proofs.Fitted.{left_from, slices-start, slices-next, slices-end}
 use Rattle.tv_interlace.proofs.next.next_slices.Goals as goal

@@ -1,8 +1,7 @@
-use Rattle.std.proofs.Common.{◌≡◌, ℕ, suc, ◌+◌, ◌<◌, ◌≤◌, [], List, ◌++◌, pos, ◌+ℤ◌, ap, arith, sym, ◌∙◌, append-nil, inl, inr, refl}
+use Rattle.std.proofs.Common.{◌≡◌, suc, ◌+◌, ◌<◌, [], ◌++◌, ap, arith, sym, ◌∙◌, append-nil, inl, inr}
 use Rattle.std.specs.Prelude.{◌⊎◌}
-use Rattle.std.proofs.lemmas.Int.{to_z-of_z}
 use Rattle.tv_cells.specs.Extras.{extent}
-use Rattle.tv_spec_slices.specs.Slices.{Shape, reach}
+use Rattle.tv_spec_slices.specs.Slices.{reach}
 use Rattle.tv_interlace.specs.Rooms.{low, high, open_from}
 use Rattle.tv_interlace.proofs.OpenPlaces.{none}
 use Rattle.tv_interlace.proofs.next.push_extras.Goals as goal

@@ -1,7 +1,7 @@
-use Rattle.std.proofs.Common.{◌≡◌, ℕ, suc, ◌-◌, arith, ap, sym, ◌∙◌}
+use Rattle.std.proofs.Common.{◌≡◌, suc, ◌-◌, ap, ◌∙◌}
 use Rattle.std.proofs.lemmas.Int.{to_z-of_z}
 use Rattle.tv_spec_slices.specs.Slices.{reach}
-use Rattle.tv_interlace.specs.Rooms.{low, high, open_from}
+use Rattle.tv_interlace.specs.Rooms.{low, high}
 use Rattle.tv_interlace.proofs.OpenPlaces.{open-after}
 use Rattle.tv_interlace.proofs.rooms.room_after.Goals as goal
 

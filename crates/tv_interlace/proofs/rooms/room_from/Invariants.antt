@@ -1,4 +1,4 @@
-use Rattle.std.proofs.Common.{◌≡◌, ◌+◌, ◌-◌, ◌*◌, ◌≤◌}
+use Rattle.std.proofs.Common.{◌≡◌, ◌+◌, ◌*◌, ◌≤◌}
 use Rattle.tv_interlace.specs.Rooms.{low, high, open_from}
 use Rattle.tv_interlace.proofs.rooms.room_from.Given as goal
 
