@@ -48,12 +48,7 @@ impl<C: Ring> Corners<C> {
 
     /// The place of the series of the corner with these legs, known through `k` at least. It is that of their least image, and
     /// is computed where it is not kept or known less far. On an error what is kept stays as it was.
-    pub fn place_of(
-        &mut self,
-        alloc: Global,
-        legs: &Legs,
-        k: u32,
-    ) -> Result<usize, RingFault>
+    pub fn place_of(&mut self, alloc: Global, legs: &Legs, k: u32) -> Result<usize, RingFault>
         requires { k < 2 ^ 29 }
         ensures value { IfOk result (λ i. IsPlaceOf C.ring legs.now k self.new i) }
         ensures kept { OnOk result (Keeps C.ring (least legs.now) k self.new) }
