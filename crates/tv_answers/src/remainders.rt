@@ -10,6 +10,7 @@ use tv_glue::full;
 use tv_graded::Graded;
 use tv_laurent::{Coefficient, Series};
 use tv_ring::{Residue, Whole};
+use tv_spec_plane::limits::GREATEST_DEGREE;
 
 type First = Residue<1000000007>;
 
@@ -46,15 +47,17 @@ fn remainder(series: &Series<First>, n: i64) -> i128 {
     }
 }
 
-// The least remainder, of numbers below 0 too.
-fn least(value: i128) -> i128 {
-    let rest = value % 1_000_000_007;
-    if rest < 0 { rest + 1_000_000_007 } else { rest }
+// Whether the value and the remainder differ by a whole multiple of the modulus.
+fn leaves_at(whole: &Series<Whole>, first: &Series<First>, n: i64) -> bool {
+    match value(whole, n).checked_sub(remainder(first, n)) {
+        Some(difference) => difference % 1_000_000_007 == 0,
+        None => false,
+    }
 }
 
 fn row_leaves(whole: &Series<Whole>, first: &Series<First>) -> bool {
     for n in -64..65i64 {
-        if least(value(whole, n)) != remainder(first, n) {
+        if !leaves_at(whole, first, n) {
             return false;
         }
     }
@@ -78,8 +81,8 @@ fn leaves(whole: &Graded<Whole>, first: &Graded<First>) -> bool {
 }
 
 fn agree(alloc: Global, bytes: &[u8], d: u32, n: i64) -> Result<bool, Fail>
-    requires degree { d ≤ 24 }
-    requires order { unsigned_abs n ≤ 64 }
+    requires degree { d ≤ GREATEST_DEGREE }
+    requires order { unsigned_abs n ≤ 100000000 }
 {
     let web = web(alloc, bytes)?;
     let whole = full::<Whole>(alloc, &web, d, n)?;
