@@ -1,0 +1,13 @@
+pub mod Entries
+pub mod Joined
+pub mod Told
+pub mod Picked
+pub mod Least
+pub mod Held
+pub mod Classes
+pub mod RowAdded
+pub mod Exact
+pub mod Spread
+pub mod Near
+pub mod Grown
+pub mod Pair

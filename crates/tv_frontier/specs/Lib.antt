@@ -1,0 +1,6 @@
+pub mod Picks
+pub mod Faults
+pub mod Joining
+pub mod Sums
+pub mod Rows
+pub mod Layers
