@@ -4,3 +4,4 @@ pub mod Joining
 pub mod Sums
 pub mod Rows
 pub mod Layers
+pub mod Frontiers

@@ -4,6 +4,7 @@
 
 mod class;
 mod fault;
+mod frontier;
 mod joining;
 mod joins;
 mod layers;
@@ -11,5 +12,8 @@ mod lowest;
 mod picks;
 mod places;
 mod spreads;
+mod state;
 
 pub use fault::GlueFault;
+pub use frontier::{Frontier, last_part};
+pub use state::State;
