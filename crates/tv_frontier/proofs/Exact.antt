@@ -37,7 +37,7 @@ distinct-rises hs [] rises = tt
 distinct-rises hs (v ∷ vs) rises =
     (all-onto (IsBefore hs v) (λ u. same_vector v u ≡ false) (λ u h. same_vector-other v u (before_apart hs v u h)) vs (first_before hs v vs rises), distinct-rises hs vs (rise_tail hs v vs rises))
 
-plus-difference : (v c : List ℤ) → length v ≡ length c → plus (class_difference v c) c ≡ v
+pub plus-difference : (v c : List ℤ) → length v ≡ length c → plus (class_difference v c) c ≡ v
 plus-difference [] [] e = refl
 plus-difference [] (y ∷ c) e = absurd (omega arith)
 plus-difference (x ∷ v) [] e = absurd (omega arith)

@@ -98,6 +98,22 @@ module _ {A : Type 0} (r : Operations A) (floor m : ℤ) (s : Terms A) (k : ℤ)
       by_floor (pos n) e = inr (omega (arith, ints, clamps))
       by_floor (negsuc n) e = inl (omega (arith, ints))
 
+-- the moved series, read: where it has no coefficient, what would be there is nought
+pub moved-read : {A : Type 0} (r : Operations A) (floor m : ℤ) (s : Terms A) (k i : ℤ) → i ≤ℤ m → (i <ℤ floor → coefficient r s (i -ℤ k) ≡ r.nought) → coefficient r (moved_terms r floor m s k) i ≡ coefficient r s (i -ℤ k)
+moved-read r floor m s k i within none = by_place (i -ℤ moved_low floor m s.low k) refl
+  where
+    by_place : (z : ℤ) → i -ℤ moved_low floor m s.low k ≡ z → coefficient r (moved_terms r floor m s k) i ≡ coefficient r s (i -ℤ k)
+    by_place (pos p) e =
+        let low = moved_low floor m s.low k in
+        let here = above_adds low i (omega (arith, ints)) in
+        let same : above low i ≡ p = omega (arith, ints) in
+        let last = above_is low (m +ℤ pos 1) in
+        coefficient_at r (moved_terms r floor m s k) i (omega (arith, ints))
+        ∙ (moved-coefficient r floor m s k (above low i) (omega (arith, ints)) ∙ ap (λ x. coefficient r s (x -ℤ k)) here)
+    by_place (negsuc p) e =
+        coefficient_below r (moved_terms r floor m s k) i (omega (arith, ints))
+        ∙ elim (moved-below r floor m s k i within (omega (arith, ints))) [ inl under ↦ sym (none under) | inr early ↦ sym (coefficient_below r s (i -ℤ k) early) ]
+
 pub moved-between : (f m l k x : ℤ) → x ≡ l +ℤ k → f ≤ℤ x → x <ℤ (m +ℤ pos 1) → x ≡ moved_low f m l k
 moved-between f m l k x e low high = omega (arith, ints, clamps)
 

@@ -48,3 +48,7 @@ pub least-last : {A : Type 0} (f : A → ℤ) (xs : List A) (k : ℕ) (now whole
 least-last f xs k now whole h low e =
     let none : least f (drop k xs) ≡ pos 0 = ap (least f) (drop_all k xs h) ∙ least-none f in
     omega (arith, ints, clamps)
+
+pub lowest-low : (w : Web) (d : ℕ) → lowest w (no_legs w) d ≤ℤ pos 0
+unfolding lowest
+lowest-low w d = least-low (low_of w (no_legs w)) (assignments w d)

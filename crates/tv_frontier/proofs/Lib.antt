@@ -11,3 +11,9 @@ pub mod Spread
 pub mod Near
 pub mod Grown
 pub mod Pair
+pub mod Among
+pub mod Layered
+pub mod WithSigns
+pub mod Begun
+pub mod Listing
+pub mod Next

@@ -40,6 +40,9 @@ cells-nothing : (es : List CompactEdge) → cells_of (nothing es) ≡ 0
 cells-nothing [] = refl
 cells-nothing (e ∷ es) = let rest = cells-nothing es in omega arith
 
+pub nothing-few : (es : List CompactEdge) (a : Assignment) → a ≡ nothing es → cells_of a ≤ 24
+nothing-few es a is = let none = cells-nothing es in rw is (omega arith)
+
 cells-put : (fs : List Bool) (g : Assignment) (es : List CompactEdge) → cells_of (put_by fs g (nothing es)) ≤ cells_of g
 cells-put [] g es = let none = cells-nothing es in omega arith
 cells-put (f ∷ fs) [] es = let none = cells-nothing es in omega arith

@@ -1,8 +1,8 @@
 -- One series of a state joined to a corner.
 --
 -- lowest_kept w d n         == the lesser of the lowest and of what is one beyond the greatest exponent kept
--- IsStage w d n low m t     == d and n are within their limits, low is the lowest kept, m is the greatest exponent kept, and t
---                              is a corner
+-- IsSpan w d n low m        == d and n are within their limits, low is the lowest kept, and m is the greatest exponent kept
+-- IsStage w d n low m t     == so it is, and t is a corner
 -- IsJoin w d t h g l c v k  == h is a choice on the pending edges and g one on the new ones, of degree at most d together; l are
 --                              the legs of corner t, c is the class of the new edges, with entries of at most 10,000, v that of what the corner sees, and k is
 --                              the cost of the new edges less the overlap cost
@@ -31,6 +31,16 @@ use Rattle.tv_laws_frontier.specs.Steps.{states, options, new_part, near_part, n
 
 abbrev pub lowest_kept : Web → ℕ → ℤ → ℤ
 lowest_kept w d n = int_min (lowest w (no_legs w) d) (kept_upto w (no_legs w) d n +ℤ pos 1)
+
+pub record IsSpan (w : Web) (d : ℕ) (n low m : ℤ) : Type 0 where
+  pub degree : d ≤ 24
+  pub order : unsigned_abs n ≤ 100000000
+  pub lowest : unsigned_abs (lowest w (no_legs w) d) ≤ 10000000
+  pub floor : low ≡ lowest_kept w d n
+  pub upto : m ≡ kept_upto w (no_legs w) d n
+  pub rises : low ≤ℤ (m +ℤ pos 1)
+  pub small_low : unsigned_abs low ≤ 200000000
+  pub small_upto : unsigned_abs m ≤ 200000000
 
 pub record IsStage (w : Web) (d : ℕ) (n low m : ℤ) (t : ℕ) : Type 0 where
   pub degree : d ≤ 24

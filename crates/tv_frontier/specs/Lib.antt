@@ -5,3 +5,4 @@ pub mod Sums
 pub mod Rows
 pub mod Layers
 pub mod Frontiers
+pub mod Signs

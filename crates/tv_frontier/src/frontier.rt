@@ -7,8 +7,12 @@ ghost use Rattle.tv_spec_series.specs.Full.{IsFull};
 ghost use Rattle.tv_frontier.specs.Faults.{OnWide, IsCrowded};
 ghost use Rattle.tv_frontier.specs.Frontiers.{IsFrontier};
 
+use crate::after::{layer_after, span_of};
 use crate::fault::GlueFault;
+use crate::joining::Stage;
+use crate::signed::signed_part;
 use crate::state::State;
+use crate::states::{pending_edges, states_of};
 use std::alloc::Global;
 use std::marker::Model;
 use tv_assigned_series::Corners;
@@ -49,7 +53,20 @@ impl<C: Ring> Frontier<C> {
         // Wide only with a class whose crowd, times the size of one, exceeds the limit.
         ensures wide { IfErr result (λ e. OnWide e (IsCrowded C.ring web.now d n)) }
     {
-        Err(GlueFault::Memory)
+        let mut corners = Corners::new(alloc);
+        let (floor, upto) = span_of(alloc, web, d, n)?;
+        let stage = Stage {
+            web,
+            d,
+            n,
+            floor,
+            upto,
+            t,
+        };
+        let layer = layer_after(alloc, &stage, &mut corners)?;
+        let states = states_of(alloc, &stage, &layer)?;
+        let pending = pending_edges(alloc, web, t)?;
+        Ok(Frontier { pending, states })
     }
 
     /// The compact edges of which exactly one corner is done, rising.
@@ -81,5 +98,21 @@ pub fn last_part<C: Ring>(
     ensures full { IfOk result (λ family. IsFull C.ring web.now (no_legs web.now) d n family) }
     ensures wide { IfErr result (λ e. OnWide e (IsCrowded C.ring web.now d n)) }
 {
-    Err(GlueFault::Memory)
+    let (floor, upto) = span_of(alloc, web, d, n)?;
+    let t = web.web().triangles().len() as u32;
+    let stage = Stage {
+        web,
+        d,
+        n,
+        floor,
+        upto,
+        t,
+    };
+    let layer = layer_after(alloc, &stage, corners)?;
+    web.known();
+    if layer.parts.len() == 0 {
+        return Err(GlueFault::Memory);
+    }
+    let family = signed_part(alloc, web, n, &layer.parts[0])?;
+    Ok(family)
 }

@@ -6,7 +6,7 @@ ghost use Rattle.tv_spec_plane.specs.Web.{degree_of};
 ghost use Rattle.tv_spec_boxes.specs.Assignments.{class_difference};
 ghost use Rattle.tv_spec_series.specs.Families.{coefficient};
 ghost use Rattle.tv_frontier.specs.Faults.{OnWide, IsCrowded};
-ghost use Rattle.tv_frontier.specs.Joining.{IsStage, IsJoin, moved_low, moved_terms, IsOfState, IsJoined};
+ghost use Rattle.tv_frontier.specs.Joining.{IsSpan, IsStage, IsJoin, moved_low, moved_terms, IsOfState, IsJoined};
 
 use crate::fault::{GlueFault, of_ring, of_series};
 use std::alloc::Global;
@@ -88,14 +88,14 @@ fn boxes_between(low: i64, upto: i64) -> u32
     (upto - low) as u32
 }
 
-// The series with each exponent moved, known through the greatest exponent kept: there is nothing beyond it before the corner.
-fn moved<C: Ring>(
+/// The series with each exponent moved, known through the greatest exponent kept: there is nothing beyond it before the corner.
+pub(crate) fn moved<C: Ring>(
     alloc: Global,
     stage: &Stage,
     series: &Series<C>,
     shift: i64,
 ) -> Result<Series<C>, RingFault>
-    requires stage { IsStage stage.now.web.now stage.now.d stage.now.n stage.now.floor stage.now.upto stage.now.t }
+    requires span { IsSpan stage.now.web.now stage.now.d stage.now.n stage.now.floor stage.now.upto }
     requires shift { unsigned_abs shift ≤ 10000000 }
     ensures value { IfOk result (λ s. s ≡ moved_terms C.ring stage.now.floor stage.now.upto series.now shift) }
     ensures never_wide { IsOkUnless result RingFault.Memory }
@@ -130,7 +130,8 @@ fn moved_low(floor: i64, upto: i64, low: i64, shift: i64) -> i64
     }
 }
 
-fn count_from(low: i64, upto: i64) -> u32
+/// How many exponents there are from `low` through `upto`.
+pub(crate) fn count_from(low: i64, upto: i64) -> u32
     requires low { unsigned_abs low ≤ 200000001 }
     requires upto { unsigned_abs upto ≤ 200000000 }
     requires rises { low ≤ℤ (upto +ℤ pos 1) }
@@ -149,7 +150,8 @@ fn before(low: i64, k: u32, shift: i64) -> i64
     low + i64::from(k) - shift
 }
 
-fn coefficient_at<C: Ring>(alloc: Global, series: &Series<C>, n: i64) -> Result<C, RingFault>
+/// The coefficient at an exponent; zero where it is not known.
+pub(crate) fn coefficient_at<C: Ring>(alloc: Global, series: &Series<C>, n: i64) -> Result<C, RingFault>
     ensures value { IfOk result (λ x. x ≡ coefficient C.ring series.now n) }
     ensures never_wide { IsOkUnless result RingFault.Memory }
 {

@@ -1,4 +1,4 @@
-//! One state and one choice on the new edges, and the families of the choices after the corner. No sign is known here.
+//! One state and the choices on the new edges, and the families of the choices after the corner. No sign is known here.
 
 ghost use Rattle.std.specs.Prelude.{◌≡◌, Contains, suc, map, length, IfErr, OnOk};
 ghost use Rattle.std.specs.List.{IsDistinct};
@@ -10,7 +10,7 @@ ghost use Rattle.tv_laws_frontier.specs.Steps.{is_new, put, nothing, states, opt
 ghost use Rattle.tv_frontier.specs.Faults.{OnWide};
 ghost use Rattle.tv_frontier.specs.Joining.{IsStage};
 ghost use Rattle.tv_frontier.specs.Rows.{IsPart};
-ghost use Rattle.tv_frontier.specs.Layers.{AllShaped, pair_addends, GrowsBy, CrowdedIn};
+ghost use Rattle.tv_frontier.specs.Layers.{AllShaped, pair_addends, state_addends, GrowsBy, CrowdedIn, IsStep};
 
 use crate::fault::GlueFault;
 use crate::joining::Stage;
@@ -18,14 +18,58 @@ use crate::joins::join_rows;
 use crate::picks::{picked_diagrams, put};
 use crate::places::place_of;
 use crate::spreads::{Spread, join_of, spread_over};
+use crate::steps::Step;
 use std::alloc::Global;
 use tv_assigned_series::Corners;
 use tv_assignment::Assignment;
 use tv_graded::Graded;
 use tv_ring::Ring;
 
-/// Joins one state to one choice on the new edges, where both together are of degree at most d.
-pub(crate) fn join_pair<C: Ring>(
+/// Joins one state to each choice on the new edges.
+pub(crate) fn join_state<C: Ring>(
+    alloc: Global,
+    stage: &Stage,
+    step: &Step,
+    key: &Assignment,
+    part: &Graded<C>,
+    parts: &mut [Graded<C>],
+    corners: &mut Corners<C>,
+) -> Result<(), GlueFault>
+    requires stage { IsStage stage.now.web.now stage.now.d stage.now.n stage.now.floor stage.now.upto stage.now.t }
+    requires step { IsStep stage.now.web.now stage.now.d stage.now.t step.now.pending.items step.now.fresh.items step.now.after.items step.now.options.items step.now.keys.items }
+    requires first { Contains (states stage.now.web.now stage.now.d stage.now.t) key.now }
+    requires part { IsPart C.IsValue C.ring stage.now.web.now stage.now.d stage.now.n stage.now.t key.now part.now }
+    requires one_each { length parts.old ≡ length step.now.keys.items }
+    requires shaped { AllShaped stage.now.web.now stage.now.d stage.now.upto parts.old }
+    ensures shaped { OnOk result (AllShaped stage.now.web.now stage.now.d stage.now.upto parts.new) }
+    ensures grows { OnOk result (GrowsBy C.IsValue C.ring stage.now.web.now stage.now.d stage.now.n (suc stage.now.t) (state_addends stage.now.web.now stage.now.d stage.now.n stage.now.t step.now.options.items (key.now, classes part.now.rows)) step.now.keys.items parts.old parts.new) }
+    ensures wide { IfErr result (λ e. OnWide e (CrowdedIn C.IsValue C.ring stage.now.web.now stage.now.d stage.now.n (suc stage.now.t) (state_addends stage.now.web.now stage.now.d stage.now.n stage.now.t step.now.options.items (key.now, classes part.now.rows)) step.now.keys.items parts.old)) }
+{
+    stage.web.known();
+    let spread = spread_over(alloc, stage.web, &step.pending, key)?;
+    for k in 0..step.options.len() {
+        let _joined = match join_pair(
+            alloc,
+            stage,
+            &step.fresh,
+            &step.after,
+            key,
+            &spread,
+            part,
+            &step.options[k],
+            &step.keys,
+            parts,
+            corners,
+        ) {
+            Ok(()) => (),
+            Err(fault) => return Err(fault),
+        };
+    }
+    Ok(())
+}
+
+// Joins one state to one choice on the new edges, where both together are of degree at most d.
+fn join_pair<C: Ring>(
     alloc: Global,
     stage: &Stage,
     fresh: &[bool],

@@ -43,7 +43,8 @@ fn low_at(
     Ok(low_of(web, &all[k], &legs))
 }
 
-fn lesser(x: i64, y: i64) -> i64
+/// The lesser of both.
+pub(crate) fn lesser(x: i64, y: i64) -> i64
     ensures value { result ≡ int_min x y }
 {
     if y < x { y } else { x }

@@ -148,7 +148,8 @@ pub(crate) fn nothing(alloc: Global, web: &GradedWeb) -> Result<Vec<Diagram>, Al
     Ok(all)
 }
 
-fn takes(flags: &[bool], k: usize) -> bool
+/// Whether flag number `k` is set.
+pub(crate) fn takes(flags: &[bool], k: usize) -> bool
     ensures { result ≡ slice_index_or flags.now k false }
 {
     match flags.get(k) {
