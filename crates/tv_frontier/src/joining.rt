@@ -151,7 +151,11 @@ fn before(low: i64, k: u32, shift: i64) -> i64
 }
 
 /// The coefficient at an exponent; zero where it is not known.
-pub(crate) fn coefficient_at<C: Ring>(alloc: Global, series: &Series<C>, n: i64) -> Result<C, RingFault>
+pub(crate) fn coefficient_at<C: Ring>(
+    alloc: Global,
+    series: &Series<C>,
+    n: i64,
+) -> Result<C, RingFault>
     ensures value { IfOk result (λ x. x ≡ coefficient C.ring series.now n) }
     ensures never_wide { IsOkUnless result RingFault.Memory }
 {

@@ -23,3 +23,6 @@ mod steps;
 pub use fault::GlueFault;
 pub use frontier::{Frontier, last_part};
 pub use state::State;
+
+#[cfg(test)]
+mod tests;
