@@ -1,6 +1,6 @@
 -- What is added of a list of things, one after the other.
 use Rattle.std.specs.Prelude.{◌≡◌, ℕ, ℤ, List, [], ◌∷◌, ◌++◌}
-use Rattle.std.specs.List.{AllByRecursion, flat_map}
+use Rattle.std.specs.List.{flat_map}
 use Rattle.std.proofs.Common.{refl, sym, ap, subst, ◌∙◌, append_assoc, append-nil}
 use Rattle.std.proofs.lemmas.Grind.{flat_map-append}
 use Rattle.tv_lemmas.proofs.Members.{all-onto, all-any}
@@ -8,7 +8,6 @@ use Rattle.tv_ring.specs.Operations.{Operations}
 use Rattle.tv_spec_plane.specs.Web.{Web}
 use Rattle.tv_spec_boxes.specs.Assignments.{Rows}
 use Rattle.tv_spec_series.specs.Families.{Family}
-use Rattle.tv_frontier.specs.Faults.{IsCrowded}
 use Rattle.tv_frontier.specs.Sums.{Addend}
 use Rattle.tv_frontier.specs.Rows.{HasRoom, Holding}
 use Rattle.tv_frontier.specs.Layers.{AllHold, GrowsBy, CrowdedIn}

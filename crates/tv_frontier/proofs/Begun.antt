@@ -1,30 +1,28 @@
 -- The one state before all corners: class zero, with one at exponent 0.
-use Rattle.std.specs.Prelude.{◌≡◌, Contains, ℕ, zero, suc, ◌+◌, ◌<◌, ◌≤◌, ◌⊎◌, Bool, true, false, cond, ◌&&◌, int_le, ℤ, pos, negsuc, ◌+ℤ◌, ◌-ℤ◌, ◌≤ℤ◌, ◌<ℤ◌, List, [], ◌∷◌, length, unsigned_abs}
-use Rattle.std.specs.Int.{int_min}
+use Rattle.std.specs.Prelude.{◌≡◌, Contains, ℕ, zero, suc, Bool, true, false, cond, ◌&&◌, int_le, ℤ, pos, negsuc, ◌+ℤ◌, ◌-ℤ◌, ◌≤ℤ◌, ◌<ℤ◌, List, [], ◌∷◌, length}
 use Rattle.std.specs.Ordering.{int_eq}
 use Rattle.std.specs.List.{AllByRecursion}
 use Rattle.std.proofs.Common.{refl, sym, ap, subst, ◌∙◌, arith}
 use Rattle.std.proofs.lemmas.Int.{ints, clamps}
-use Rattle.tv_lemmas.proofs.Members.{all-any, all-filter, all-contains, contains-filter}
+use Rattle.tv_lemmas.proofs.Members.{contains-filter}
 use Rattle.tv_ring.specs.Operations.{Operations, RingLaws}
 use Rattle.tv_ring.specs.Sums.{at, times, whole_times}
 use Rattle.tv_ring.proofs.Times.{times-none, times-one, whole_times-pos}
-use Rattle.tv_laws_series.specs.Terms.{Terms, terms, above, upto, IsWithin, IsBounded}
+use Rattle.tv_laws_series.specs.Terms.{Terms, terms, above, IsBounded}
 use Rattle.tv_laws_series.specs.Series.{IsSeries}
 use Rattle.tv_laws_series.proofs.Coefficients.{coefficient_below, coefficient_at, coefficient_beyond}
 use Rattle.tv_laws_series.proofs.Exponents.{above_same}
 use Rattle.tv_spec_plane.specs.Graded.{IsGraded}
-use Rattle.tv_spec_plane.specs.Web.{Web, compact, degree_of}
+use Rattle.tv_spec_plane.specs.Web.{Web, compact}
 use Rattle.tv_degrees.specs.Grades.{IsHeighted}
-use Rattle.tv_spec_boxes.specs.Assignments.{Rows, Assignment, no_legs, class_of, assignments, zeros, same_vector}
-use Rattle.tv_spec_boxes.specs.Numbers.{lowest}
-use Rattle.tv_spec_boxes.proofs.Vectors.{same_vector-same, same_vector_tells}
+use Rattle.tv_spec_boxes.specs.Assignments.{no_legs, class_of, assignments, same_vector}
+use Rattle.tv_spec_boxes.proofs.Vectors.{same_vector-same}
 use Rattle.tv_spec_series.specs.Families.{Family, classes, without_rows, added, coefficient, HasPlace, IsAddend}
-use Rattle.tv_laws_frontier.specs.Frontier.{is_of_state, of_state, state_number, kept_upto}
+use Rattle.tv_laws_frontier.specs.Frontier.{is_of_state, state_number}
 use Rattle.tv_laws_frontier.specs.Steps.{nothing}
 use Rattle.tv_laws_frontier.specs.StateClasses.{HasClass}
 use Rattle.tv_laws_frontier.proofs.First.{nothing-listed, nothing-class, of-nothing, is-nothing, first_state}
-use Rattle.tv_frontier.specs.Joining.{lowest_kept, IsSpan, moved_low, moved_terms}
+use Rattle.tv_frontier.specs.Joining.{IsSpan, moved_terms}
 use Rattle.tv_frontier.specs.Sums.{Addend, added_up, StartsAt, Holds}
 use Rattle.tv_frontier.specs.Rows.{IsPart}
 use Rattle.tv_frontier.proofs.Classes.{class-listed, class-place}

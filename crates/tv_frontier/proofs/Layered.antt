@@ -1,14 +1,14 @@
 -- What all states add to the families of the choices after a corner is what one step along the frontier adds up.
-use Rattle.std.specs.Prelude.{◌≡◌, Contains, ℕ, zero, suc, ◌+◌, ◌<◌, ◌≤◌, Bool, true, false, cond, ◌&&◌, int_le, ℤ, pos, negsuc, ◌+ℤ◌, ◌-ℤ◌, ◌≤ℤ◌, ◌<ℤ◌, List, [], ◌∷◌, ◌++◌, length, unsigned_abs, nat_eq}
+use Rattle.std.specs.Prelude.{◌≡◌, Contains, ℕ, suc, ◌+◌, ◌<◌, ◌≤◌, Bool, true, false, cond, ◌&&◌, int_le, ℤ, pos, negsuc, ◌+ℤ◌, ◌-ℤ◌, ◌≤ℤ◌, ◌<ℤ◌, List, [], ◌∷◌, ◌++◌, length, unsigned_abs, nat_eq}
 use Rattle.std.specs.List.{AllByRecursion, flat_map}
 use Rattle.std.proofs.Common.{refl, sym, ap, subst, ◌∙◌, inl, inr, arith}
 use Rattle.std.proofs.lemmas.Int.{ints}
 use Rattle.std.proofs.lemmas.Bool.{eqb-true, eq-eqb}
-use Rattle.tv_lemmas.specs.Sums.{plus, sum_of}
+use Rattle.tv_lemmas.specs.Sums.{sum_of}
 use Rattle.tv_lemmas.proofs.Members.{all-onto, all-any, all-append, all-front, all-back, all-flat_map, all-pieces, all-filter, all-contains, all-members, contains-cases}
 use Rattle.tv_laws_series.proofs.NormalForm.{bool_cases}
 use Rattle.tv_ring.specs.Operations.{Operations, RingLaws}
-use Rattle.tv_ring.specs.Sums.{times, whole_times}
+use Rattle.tv_ring.specs.Sums.{whole_times}
 use Rattle.tv_ring.proofs.Times.{whole_times-pos}
 use Rattle.tv_spec_plane.specs.Graded.{IsGraded}
 use Rattle.tv_spec_plane.specs.Web.{Web, compact, degree_of}
@@ -30,7 +30,7 @@ use Rattle.tv_laws_frontier.proofs.StateClasses.{classes_step}
 use Rattle.tv_laws_frontier.proofs.Step.{step_of_state}
 use Rattle.tv_frontier.specs.Joining.{lowest_kept, join_number}
 use Rattle.tv_frontier.specs.Sums.{Addend, added_up}
-use Rattle.tv_frontier.specs.Rows.{after_of, target, addend_of, row_addends, sizes_up, HasRoom, HasShape, Holding, IsPart}
+use Rattle.tv_frontier.specs.Rows.{after_of, target, addend_of, row_addends, sizes_up, HasRoom, Holding, IsPart}
 use Rattle.tv_frontier.specs.Layers.{AllHold, pair_addends, state_addends, classed, layer_addends, AreParts}
 use Rattle.tv_frontier.proofs.Classes.{class-listed, class-place}
 use Rattle.tv_frontier.proofs.Exact.{rows-joined, plus-difference}

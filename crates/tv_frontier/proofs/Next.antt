@@ -1,14 +1,13 @@
 -- One step along the frontier: what is read of the web, and the states after it.
-use Rattle.std.specs.Prelude.{◌≡◌, Contains, ℕ, zero, suc, ◌+◌, ◌<◌, ◌≤◌, Bool, ℤ, pos, ◌+ℤ◌, ◌-ℤ◌, List, [], ◌∷◌, ◌++◌, map, filter, length, take, drop, slice_get, Some, unsigned_abs}
+use Rattle.std.specs.Prelude.{◌≡◌, Contains, ℕ, zero, suc, ◌+◌, ◌<◌, ◌≤◌, Bool, ℤ, pos, ◌+ℤ◌, ◌-ℤ◌, List, [], ◌∷◌, ◌++◌, map, filter, length, take, drop, unsigned_abs}
 use Rattle.std.specs.List.{AllByRecursion, IsDistinct}
 use Rattle.std.proofs.Common.{refl, sym, ap, subst, ◌∙◌, arith, get_or, append-nil, take_all}
 use Rattle.std.specs.Int.{int_min}
 use Rattle.std.proofs.lemmas.Int.{ints, clamps}
 use Rattle.tv_lemmas.specs.Naturals.{as_natural}
 use Rattle.std.proofs.lemmas.List.{length-append, drop_all}
-use Rattle.tv_lemmas.proofs.Members.{all-onto, all-any, all-append}
+use Rattle.tv_lemmas.proofs.Members.{all-onto, all-append}
 use Rattle.tv_ring.specs.Operations.{Operations, RingLaws}
-use Rattle.tv_laws_series.specs.Terms.{IsWithin}
 use Rattle.tv_spec_plane.specs.declared.records.CompactEdge.{CompactEdge}
 use Rattle.tv_spec_plane.specs.Graded.{IsGraded}
 use Rattle.tv_spec_plane.specs.Web.{Web, compact, edge_degree}
@@ -20,14 +19,13 @@ use Rattle.tv_spec_series.specs.Families.{Family, classes, without_rows}
 use Rattle.tv_spec_partial.specs.Partial.{is_pending}
 use Rattle.tv_laws_counts.proofs.Assigned.{choices-once}
 use Rattle.tv_laws_counts.proofs.Degrees.{weights}
-use Rattle.tv_laws_frontier.specs.Frontier.{kept_upto}
 use Rattle.tv_laws_frontier.proofs.StateClasses.{end_states}
-use Rattle.tv_laws_frontier.specs.Steps.{is_new, put, nothing, choices_on, states, options}
+use Rattle.tv_laws_frontier.specs.Steps.{put, nothing, choices_on, states}
 use Rattle.tv_frontier.specs.Faults.{IsCrowded}
 use Rattle.tv_frontier.specs.Joining.{IsSpan, IsStage}
 use Rattle.tv_frontier.specs.Picks.{picks, put_by}
 use Rattle.tv_frontier.specs.Sums.{Addend}
-use Rattle.tv_frontier.specs.Rows.{HasRoom, HasShape, IsPart}
+use Rattle.tv_frontier.specs.Rows.{HasShape, IsPart}
 use Rattle.tv_frontier.specs.Layers.{AllHold, AllShaped, classed, layer_addends, GrowsBy, CrowdedIn, AreParts, IsLayer, IsStep}
 use Rattle.tv_frontier.proofs.Layered.{parts-after, rooms-after, none-held}
 use Rattle.tv_frontier.proofs.Near.{mapped-picks}

@@ -1,4 +1,4 @@
-use Rattle.std.proofs.Common.{◌≡◌, ◌+◌, ◌<◌, suc, length, arith, w64, to_z, of_z}
+use Rattle.std.proofs.Common.{◌≡◌, ◌+◌, suc, arith, w64, to_z, of_z}
 use Rattle.std.proofs.lemmas.Int.{ints}
 use Rattle.tv_frontier.proofs.Next.{stage-of, span-read, layer-read}
 use Rattle.tv_frontier.proofs.after.layer_after.Goals as goal

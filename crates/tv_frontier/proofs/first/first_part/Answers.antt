@@ -1,5 +1,4 @@
-use Rattle.std.proofs.Common.{◌≡◌, ◌≤◌, sym, ap, subst, ◌∙◌, length, arith}
-use Rattle.std.specs.Prelude.{List, ℕ, ℤ}
+use Rattle.std.proofs.Common.{◌≡◌, sym, ap, subst, ◌∙◌, length}
 use Rattle.tv_spec_plane.specs.Web.{compact}
 use Rattle.tv_laws_frontier.specs.Steps.{nothing}
 use Rattle.tv_laws_frontier.proofs.First.{nothing-long}

@@ -1,5 +1,5 @@
-use Rattle.std.proofs.Common.{refl, sym, ap, subst, ◌∙◌, ◌+◌, suc, length, take, drop, take_all, arith}
-use Rattle.std.specs.Prelude.{◌≡◌, ◌<◌, ◌≤◌, ◌++◌, ◌∷◌, [], List, ℤ}
+use Rattle.std.proofs.Common.{sym, ap, subst, ◌∙◌, ◌+◌, suc, length, take, drop, take_all, arith}
+use Rattle.std.specs.Prelude.{◌<◌, ◌≤◌, ◌++◌, List, ℤ}
 use Rattle.std.proofs.lemmas.List.{take-append-drop}
 use Rattle.tv_spec_boxes.specs.Assignments.{Rows}
 use Rattle.tv_spec_series.specs.Families.{classes}

@@ -1,4 +1,4 @@
-use Rattle.std.proofs.Common.{sym, ap, subst, ◌∙◌, suc, length, arith}
+use Rattle.std.proofs.Common.{sym, ap, subst, suc, length, arith}
 use Rattle.std.specs.Prelude.{◌≡◌, pos, List}
 use Rattle.std.specs.List.{AllByRecursion}
 use Rattle.tv_spec_series.specs.Families.{Family, without_rows}

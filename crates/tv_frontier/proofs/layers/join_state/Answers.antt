@@ -1,5 +1,5 @@
-use Rattle.std.proofs.Common.{refl, sym, ap, subst, ◌∙◌, ◌+◌, suc, length, take, drop, take_all, le_trans, arith}
-use Rattle.std.specs.Prelude.{◌≡◌, ◌<◌, ◌≤◌, ◌++◌, ◌∷◌, []}
+use Rattle.std.proofs.Common.{sym, ap, subst, ◌∙◌, ◌+◌, suc, length, take, drop, take_all, le_trans, arith}
+use Rattle.std.specs.Prelude.{◌<◌, ◌≤◌, ◌++◌}
 use Rattle.std.proofs.lemmas.List.{take-append-drop}
 use Rattle.tv_spec_partial.specs.Partial.{is_pending}
 use Rattle.tv_spec_plane.specs.Web.{compact}

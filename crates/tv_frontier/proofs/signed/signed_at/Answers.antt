@@ -1,4 +1,4 @@
-use Rattle.std.proofs.Common.{◌≡◌, ap, subst, ◌∙◌, arith, w64, to_z, of_z}
+use Rattle.std.proofs.Common.{◌≡◌, ap, subst, arith, w64, to_z, of_z}
 use Rattle.std.specs.Prelude.{pos, ◌+ℤ◌, IfOk}
 use Rattle.std.proofs.lemmas.Int.{ints}
 use Rattle.tv_frontier.proofs.WithSigns.{signed-plus, signed-minus}

@@ -2,7 +2,6 @@ use Rattle.std.proofs.Common.{◌≡◌, length, sym, ◌∙◌, ap, arith, w64,
 use Rattle.std.specs.Prelude.{pos, ◌+ℤ◌}
 use Rattle.std.specs.Int.{int_min}
 use Rattle.std.proofs.lemmas.Int.{ints, clamps}
-use Rattle.tv_laws_series.specs.Terms.{above}
 use Rattle.tv_laws_series.proofs.Exponents.{above_is}
 use Rattle.tv_laws_series.proofs.Listed.{listed-none, listed_push, length-listed}
 use Rattle.tv_frontier.specs.Signs.{signed_at}

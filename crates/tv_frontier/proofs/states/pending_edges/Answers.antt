@@ -1,4 +1,4 @@
-use Rattle.std.proofs.Common.{◌≡◌, ◌<◌, ◌≤◌, false, length, ap, ◌∙◌, get_or, arith}
+use Rattle.std.proofs.Common.{◌≡◌, ◌<◌, false, length, ap, ◌∙◌, get_or, arith}
 use Rattle.tv_spec_plane.specs.Web.{compact}
 use Rattle.tv_frontier.proofs.Listing.{edges-next, edges-last}
 use Rattle.tv_frontier.proofs.states.pending_edges.Goals as goal

@@ -1,4 +1,4 @@
-use Rattle.std.proofs.Common.{◌≡◌, ◌<◌, length, arith}
+use Rattle.std.proofs.Common.{◌<◌, length, arith}
 use Rattle.tv_frontier.proofs.Next.{part-at, parts-long}
 use Rattle.tv_frontier.proofs.states.states_of.Goals as goal
 
