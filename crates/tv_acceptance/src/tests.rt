@@ -16,15 +16,15 @@ const IN_JSON: &[u8] =
 const FLAT_HEIGHTS: &[u8] =
     b"tv 1\npoint 0 0\npoint 1 0\npoint 1 1\npoint 0 1\ntriangle 0 1 2\ntriangle 0 2 3\nheights 0 0 0 0\nend\n";
 
-fn edges(result: Result<GradedWeb, InputError>) -> Option<usize> {
-    match result {
+fn edges(answer: Result<GradedWeb, InputError>) -> Option<usize> {
+    match answer {
         Ok(web) => Some(web.compact().len()),
         Err(_) => None,
     }
 }
 
-fn is_refused(result: Result<GradedWeb, InputError>, fault: FileFault) -> bool {
-    match result {
+fn is_refused(answer: Result<GradedWeb, InputError>, fault: FileFault) -> bool {
+    match answer {
         Err(InputError::Fault(found)) => found == fault,
         _ => false,
     }
