@@ -41,11 +41,11 @@ only-nothing [] a long = refl
 only-nothing (e ∷ es) [] long = absurd (omega arith)
 only-nothing (e ∷ es) (d ∷ a) long = let off = none-met e in rw off (ap (λ b. [] ∷ b) (only-nothing es a (omega arith)))
 
-rests-nothing : (es : List CompactEdge) → rests_on 0 es (nothing es) ≡ true
+pub rests-nothing : (es : List CompactEdge) → rests_on 0 es (nothing es) ≡ true
 rests-nothing [] = refl
 rests-nothing (e ∷ es) = let off = none-met e in let none : nat_eq 0 0 ≡ true = grind (arith, nat_tests) in rw (off, none) (rests-nothing es)
 
-none-chosen : (es : List CompactEdge) (a : Assignment) → chosen 0 es a ≡ []
+pub none-chosen : (es : List CompactEdge) (a : Assignment) → chosen 0 es a ≡ []
 none-chosen [] a = refl
 none-chosen (e ∷ es) [] = refl
 none-chosen (e ∷ es) (d ∷ a) = let off = none-pending e in rw off (none-chosen es a)
@@ -65,7 +65,7 @@ nothing-degree : (f : CompactEdge → ℕ) (es : List CompactEdge) → degree_by
 nothing-degree f [] = refl
 nothing-degree f (e ∷ es) = let rest = nothing-degree f es in omega arith
 
-nothing-listed : (w : Web) (d : ℕ) → IsGraded w → Contains (assignments w d) (nothing (compact w))
+pub nothing-listed : (w : Web) (d : ℕ) → IsGraded w → Contains (assignments w d) (nothing (compact w))
 nothing-listed w d graded =
     let none = nothing-degree (λ e. as_natural (edge_degree w e)) (compact w) in
     choice-listed w d (nothing (compact w)) graded (record {
@@ -74,7 +74,7 @@ nothing-listed w d graded =
       within = omega arith;
     })
 
-nothing-class : (w : Web) → class_of w (nothing (compact w)) ≡ zeros (length w.points)
+pub nothing-class : (w : Web) → class_of w (nothing (compact w)) ≡ zeros (length w.points)
 nothing-class w =
     entries-same (class_of w (nothing (compact w))) (zeros (length w.points)) (length-class_of w (nothing (compact w)) ∙ sym (length-zeros (length w.points)))
     (λ k. at-class_on w (compact w) (nothing (compact w)) k ∙ (sum-nothing (part_by w k) (part-empty w k) (compact w) ∙ sym (at-class_on w [] [] k)))
@@ -111,19 +111,19 @@ sum-filter f p [] = refl
 sum-filter f p (x ∷ xs) = let rest = sum-filter f p xs in elim (p x) as (λ b. sum_of f (cond b (x ∷ filter p xs) (filter p xs)) ≡ cond b (f x) 0 + sum_of (λ x. cond (p x) (f x) 0) xs) [ true ↦ omega arith | false ↦ omega arith ]
 
 module _ (w : Web) (fixed : List Rows) (d : ℕ) (m : ℤ) (v : List ℤ) (i : ℤ) (graded : IsGraded w) where
-  abbrev none : Assignment
+  abbrev pub none : Assignment
   none = nothing (compact w)
 
   abbrev number : ℕ
   number = cond (same_vector (zeros (length w.points)) v) (kept_at w fixed m 0 none i) 0
 
-  of-nothing : is_of_state w 0 [] v none ≡ same_vector (zeros (length w.points)) v
+  pub of-nothing : is_of_state w 0 [] v none ≡ same_vector (zeros (length w.points)) v
   of-nothing =
       ap (λ b. b && (same_choice (chosen 0 (compact w) none) [] && same_vector (class_of w none) v)) (rests-nothing (compact w))
       ∙ (ap (λ ds. same_choice ds [] && same_vector (class_of w none) v) (none-chosen (compact w) none)
       ∙ ap (λ u. same_vector u v) (nothing-class w))
 
-  is-nothing : (a : Assignment) → Contains (assignments w d) a → is_of_state w 0 [] v a ≡ true → none ≡ a
+  pub is-nothing : (a : Assignment) → Contains (assignments w d) a → is_of_state w 0 [] v a ≡ true → none ≡ a
   is-nothing a among on =
       let parts = and_parts (rests_on 0 (compact w) a) (same_choice (chosen 0 (compact w) a) [] && same_vector (class_of w a) v) on in
       let long = listed-long w d a among in

@@ -1,0 +1,16 @@
+use Rattle.std.proofs.Common.{refl, get_or}
+use Rattle.std.proofs.lemmas.List.{get_or_default}
+use Rattle.tv_frontier.specs.Picks.{picks}
+use Rattle.tv_frontier.proofs.Picked.{picked-next, picked-last}
+use Rattle.tv_frontier.proofs.picks.picked_degrees.Goals as goal
+
+pub loop-k-init : goal.loop-k-init
+loop-k-init c = let e = c.new-picked.ensures.items in rw e refl
+
+pub loop-k-preserved : goal.loop-k-preserved
+loop-k-preserved c =
+    let f = c.args.flags.now in let xs = c.args.degrees.now in
+    picked-next f xs c.loop-k.picked.items c.push_if.new.picked.items (picks f xs) c.loop-k.k c.takes.result (get_or xs c.loop-k.k 0) c.loop-k-test.true (get_or_default xs c.loop-k.k 0 (get_or xs c.loop-k.k 0) c.loop-k-test.true) c.takes.ensures c.in_ok-push_if.ensures c.loop-k.invariant
+
+pub returns : goal.returns
+returns c = picked-last c.args.flags.now c.args.degrees.now c.loop-k.picked.items (picks c.args.flags.now c.args.degrees.now) c.loop-k.k c.loop-k-test.false c.loop-k.invariant

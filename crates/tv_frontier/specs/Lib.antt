@@ -1,0 +1,8 @@
+pub mod Picks
+pub mod Faults
+pub mod Joining
+pub mod Sums
+pub mod Rows
+pub mod Layers
+pub mod Frontiers
+pub mod Signs
