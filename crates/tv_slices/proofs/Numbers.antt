@@ -1,5 +1,5 @@
 -- Numbers times one in a list: how they are read, and what the sum of two lists is.
-use Rattle.std.proofs.Common.{◌≡◌, ℕ, ◌+◌, ◌-◌, ◌*◌, ◌<◌, ◌≤◌, Bool, false, List, [], ◌∷◌, ◌++◌, refl, sym, ◌∙◌, ap, arith, add-mul, inl, inr}
+use Rattle.std.proofs.Common.{◌≡◌, ℕ, ◌+◌, ◌-◌, ◌*◌, ◌<◌, ◌≤◌, Bool, false, List, [], ◌∷◌, ◌++◌, length, refl, sym, ◌∙◌, ap, arith, add-mul, inl, inr}
 use Rattle.std.specs.Prelude.{cond, ◌&&◌, ◌||◌, nat_lt, nat_le}
 use Rattle.std.proofs.lemmas.Bool.{cases_lt, lt-ltb, le-ltb, le-leb, lt-leb}
 use Rattle.std.proofs.lemmas.Bool.Decides.{nat_tests}
@@ -35,6 +35,10 @@ numbers-same r f g n each = listed-same r (λ c. times r (f c)) (λ c. times r (
 pub numbers-at : {A : Type 0} (r : Operations A) (f : ℕ → ℕ) (n : ℕ) (xs : List A) (e : ℕ) → xs ≡ numbers r f n → e < n → at r xs e ≡ times r (f e)
 unfolding numbers
 numbers-at r f n xs e is l = rw is (at-listed r (λ c. times r (f c)) n e l)
+
+pub length-numbers : {A : Type 0} (r : Operations A) (f : ℕ → ℕ) (n : ℕ) → length (numbers r f n) ≡ n
+unfolding numbers
+length-numbers r f n = length-listed (λ c. times r (f c)) n
 
 pub nothing-at : {A : Type 0} (r : Operations A) (e : ℕ) → at r [] e ≡ times r 0
 nothing-at r e = at_past r [] e (omega arith) ∙ sym (times-none r)

@@ -1,5 +1,5 @@
 -- What is put into a table.
-use Rattle.std.proofs.Common.{◌≡◌, ℕ, ◌+◌, ◌-◌, ◌<◌, ◌≤◌, min, ℤ, Bool, true, false, List, [], ◌∷◌, Option, Some, None, refl, sym, ◌∙◌, ap, subst, arith, inl, inr}
+use Rattle.std.proofs.Common.{◌≡◌, ℕ, ◌+◌, ◌-◌, ◌^◌, ◌<◌, ◌≤◌, min, ℤ, Bool, true, false, List, [], ◌∷◌, length, Option, Some, None, refl, sym, ◌∙◌, ap, subst, arith, inl, inr}
 use Rattle.std.specs.Prelude.{cond, ◌&&◌, nat_lt, nat_le, MatchOption}
 use Rattle.std.specs.List.{AllByRecursion}
 use Rattle.std.specs.Map.{lookup}
@@ -14,15 +14,28 @@ use Rattle.tv_slices.specs.declared.row.Row.{Row}
 use Rattle.tv_slices.specs.Rows.{shifted, is_reached}
 use Rattle.tv_slices.specs.Tables.{known, HasRow, IsTable, Pushes, with_one, IsTooMany}
 use Rattle.tv_slices.specs.Joined.{counts_of, reached_of, IsJoined}
-use Rattle.tv_slices.proofs.Numbers.{numbers-same, numbers-at, nothing-at, shifted-at, sums-numbers, sum-wide, marks-same, marks-at, marks-shifted, marks-either}
+use Rattle.tv_slices.proofs.Numbers.{numbers-same, numbers-at, length-numbers, nothing-at, shifted-at, sums-numbers, sum-wide, marks-same, marks-at, marks-shifted, marks-either}
 
 pub row-same : {A : Type 0} (r : Operations A) (f g : ℕ → ℕ) (n : ℕ) (row : Row A) → ((c : ℕ) → c < n → f c ≡ g c) → HasRow r f n row → HasRow r g n row
 row-same r f g n row each has = record { counts = has.counts ∙ numbers-same r f g n each; reached = has.reached ∙ marks-same f g n each; least = λ c l m. sym (each c l) ∙ has.least c l m }
+
+-- how many costs are kept, read off a row
+pub kept-as-known : {A : Type 0} (r : Operations A) (f : ℕ → ℕ) (n len : ℕ) (o : Option (Row A)) → n < 2 ^ 30 → MatchOption o ((c : ℕ) → c < n → f c ≡ 0) (HasRow r f n) →
+    MatchOption o (len ≡ n) (λ old. len ≡ min (length old.counts.items) (2 ^ 32 - 1)) → len ≡ n
+kept-as-known r f n len None small row is = is
+kept-as-known r f n len (Some old) small row is = let long : length old.counts.items ≡ n = ap length row.counts ∙ length-numbers r f n in omega arith
 
 module _ {A : Type 0} (r : Operations A) (legs : Legs) (k : ℕ) (t : ℤ) where
   -- one slice of a table
   RowAt : (Shape → ℕ → ℕ) → Shape → Option (Row A) → Type 0
   RowAt f s o = MatchOption o ((c : ℕ) → c < known legs k t s → f s c ≡ 0) (HasRow r (f s) (known legs k t s))
+
+  -- how many costs of a slice are kept, as it is read off its row
+  abbrev pub Kept : Shape → ℕ → Option (Row A) → Type 0
+  Kept s len o = MatchOption o (len ≡ known legs k t s) (λ old. len ≡ min (length old.counts.items) (2 ^ 32 - 1))
+
+  pub kept-of : (f : Shape → ℕ → ℕ) (s : Shape) (len : ℕ) (o : Option (Row A)) → k < 2 ^ 29 → MatchOption o ((c : ℕ) → c < known legs k t s → f s c ≡ 0) (HasRow r (f s) (known legs k t s)) → Kept s len o → len ≡ known legs k t s
+  kept-of f s len o few row is = let small : known legs k t s < 2 ^ 30 = omega arith in kept-as-known r (f s) (known legs k t s) len o small row is
 
   at-same : (f g : Shape → ℕ → ℕ) (s : Shape) (o : Option (Row A)) → ((c : ℕ) → c < known legs k t s → f s c ≡ g s c) → RowAt f s o → RowAt g s o
   unfolding RowAt

@@ -30,7 +30,7 @@ pub fn added<C: Ring>(
     // Wide only where the sum at one of these costs is too great.
     ensures wide { IsErrOf result RingFault.Wide → (e : ℕ) × (e < len) × (limit < C.ring.size (at C.ring before.now e) + C.ring.size (shifted C.ring more.now x e)) }
 {
-    let mut all = Vec::new(alloc);
+    let mut all = Vec::with_capacity(alloc, len as usize)?;
     for e in 0..len {
         all.push(sum_at(alloc, before, more, x, e)?)?;
     }
@@ -77,7 +77,7 @@ pub fn either(
 ) -> Result<Vec<bool>, AllocError>
     ensures { IfOk result (λ v. v.items ≡ listed (either_reached before.now more.now x) len) }
 {
-    let mut all = Vec::new(alloc);
+    let mut all = Vec::with_capacity(alloc, len as usize)?;
     for e in 0..len {
         all.push(is_either(before, more, x, e))?;
     }

@@ -1,7 +1,7 @@
 //! The table of one diagonal, pushed to the next one: each slice to its neighbours. Where the diagonals begin and end is not
 //! known here.
 
-ghost use Rattle.std.specs.Prelude.{◌≡◌, ℕ, ◌+◌, ◌-◌, ◌*◌, ◌<◌, ◌≤◌, ◌^◌, pos, neg_ℤ, ◌+ℤ◌, ◌≤ℤ◌, ◌<ℤ◌, true, unsigned_abs, IfOk, OnOk, IsErrOf};
+ghost use Rattle.std.specs.Prelude.{◌≡◌, ℕ, ◌+◌, ◌-◌, ◌*◌, ◌<◌, ◌≤◌, ◌^◌, min, pos, neg_ℤ, ◌+ℤ◌, ◌≤ℤ◌, ◌<ℤ◌, true, length, unsigned_abs, IfOk, OnOk, IsErrOf, MatchOption};
 ghost use Rattle.std.specs.Option.{option_copied};
 ghost use Rattle.tv_ring.specs.Operations.{limit};
 ghost use Rattle.tv_ring.specs.Sums.{at};
@@ -37,13 +37,26 @@ fn push_one<C: Ring>(
     ensures wide { IsErrOf result RingFault.Wide → (f : ℕ → ℕ) (n : ℕ) (g : Shape → ℕ → ℕ) → Pushes C.ring legs.now k t f n row.now b.now → IsTable C.ring legs.now k t g next.old.entries → IsTooMany C.ring legs.now k t (with_one legs.now t f b.now g) }
 {
     let extras = extras_of(b, legs, t);
-    let len = known(b, legs, k, t);
+    let old = next.get(b);
+    let len = kept(old, b, legs, k, t);
     if u64::from(row.least).saturating_add(extras) >= u64::from(len) {
         return Ok(());
     }
-    let sums = joined(alloc, next.get(b), row, extras as u32, len)?;
+    let sums = joined(alloc, old, row, extras as u32, len)?;
     next.insert(b.clone()?, sums)?;
     Ok(())
+}
+
+/// How many costs of b are kept: as many as its row has, which tells them without a completion.
+fn kept<C: Ring>(row: Option<&Row<C>>, b: &Slice, legs: &Legs, k: u32, t: i32) -> u32
+    requires diagonal { unsigned_abs t ≤ 2 ^ 30 }
+    requires few { k < 2 ^ 29 }
+    ensures { MatchOption (option_copied row.entry) (result ≡ known legs.now k t b.now) (λ old. result ≡ min (length old.counts.items) (2 ^ 32 - 1)) }
+{
+    match row {
+        Some(row) => row.counts.as_slice().len().min(u32::MAX as usize) as u32,
+        None => known(b, legs, k, t),
+    }
 }
 
 /// How many costs of a slice are kept.
