@@ -1,5 +1,7 @@
 pub mod Coefficients
 pub mod Faults
+pub mod FamilyTold
+pub mod Entries
 mod Inserted
 pub mod Keeping
 mod Asking

@@ -3,7 +3,9 @@
 #![tactic(auto)]
 
 mod asked;
+mod class;
 mod corners;
+mod family_fault;
 mod fault;
 mod prepare;
 mod product;
@@ -12,6 +14,8 @@ mod signs;
 #[cfg(test)]
 mod tests;
 
+pub use class::class_of;
 pub use corners::Corners;
+pub use family_fault::{GlueFault, of_ring, of_series};
 pub use fault::PrepareFault;
 pub use series::assignment_series;

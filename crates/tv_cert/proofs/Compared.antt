@@ -53,11 +53,11 @@ use Rattle.tv_recurrence.proofs.KatzTotals.{coefficient_is_katz, katz_parts_are_
 use Rattle.tv_class_integers.specs.Rows.{IsTooWideAt}
 use Rattle.tv_class_parts.specs.ReadClasses.{ReadClass, CanBePart, part_of}
 use Rattle.tv_gv.specs.Extracted.{degree_to}
-use Rattle.tv_gv.specs.Progress.{zero_line}
+use Rattle.tv_gv.specs.Progress.{last_weight, zero_line}
 use Rattle.tv_cert.specs.declared.differences.Difference.{Difference}
 use Rattle.tv_cert.specs.Verified.{IsVerified, IsFirstDifferenceOf, IsTooWideReport}
 use Rattle.tv_cert.specs.Differences.{value_at, AgreeThrough, IsFirstUnequal}
-use Rattle.tv_cert.specs.Plans.{last_weight, IsPlan, IsPowerLine, ArePowerLines, IsProductLine, IsComputedTo, AgreeTo}
+use Rattle.tv_cert.specs.Plans.{IsPlan, IsPowerLine, ArePowerLines, IsProductLine, IsComputedTo, AgreeTo}
 use Rattle.tv_cert.proofs.Genera.{numbered, class-positive, listed-class, take-next}
 use Rattle.tv_cert.proofs.PowerLines.{base-is, majorant-least}
 use Rattle.tv_cert.proofs.Computed.{IsNext, logarithmic}

@@ -29,7 +29,8 @@ use Rattle.tv_integers.proofs.Degrees.{ordered_from}
 use Rattle.tv_gv.specs.Extracted.{degree_to}
 use Rattle.tv_cert.specs.Verified.{IsCheckable, IsTooWideReport}
 use Rattle.tv_cert.specs.Slopes.{IsSlopeOf, IsWideClass}
-use Rattle.tv_cert.specs.Plans.{IsPlan, last_weight}
+use Rattle.tv_gv.specs.Progress.{last_weight}
+use Rattle.tv_cert.specs.Plans.{IsPlan}
 
 module _ (f : Family ℤ) (k : Kept) (checkable : IsCheckable f k) (kept : AreKept k.heights k.integers) where
   ordered : AreOrdered (degree_to f) f.heights k.integers

@@ -45,7 +45,8 @@ use Rattle.tv_cert.specs.declared.fault.CertFault.TheVariants.{Wide, Memory}
 use Rattle.tv_cert.specs.Verified.{IsTooWideReport, IsCertFault}
 use Rattle.tv_cert.specs.Powers.{values_sum, values_size}
 use Rattle.tv_cert.specs.Slopes.{class_number}
-use Rattle.tv_cert.specs.Plans.{last_weight, IsPlan, IsPowerLine, ArePowerLines, IsWeightBelow, IsAtWeight}
+use Rattle.tv_gv.specs.Progress.{last_weight}
+use Rattle.tv_cert.specs.Plans.{IsPlan, IsPowerLine, ArePowerLines, IsWeightBelow, IsAtWeight}
 use Rattle.tv_cert.proofs.Genera.{numbered, take-next}
 use Rattle.tv_cert.proofs.Named.{numbered-class}
 use Rattle.tv_cert.proofs.OwnFactors.{power-values, size-values}

@@ -1,6 +1,5 @@
 -- A report on the way through its classes.
 --
--- last_weight f w     == the weight of the family's last exponent at its greatest degree, with the slope w
 -- IsPlan f k w vs     == a report that can be checked, the slope w of its integers, of at most 64, and a closed list vs of classes, which
 --                        has those of the integers; the family is one, and the integers are kept in order
 -- IsPowerLine hs w T is l == the line has the powers of the factors of the integers at its class by weight through T, each step once
@@ -30,13 +29,11 @@ use Rattle.tv_recurrence.specs.declared.fault.RowFault.{RowFault}
 use Rattle.tv_recurrence.specs.declared.fault.RowFault.TheVariants.{Wide as RowWide, Memory as RowMemory}
 use Rattle.tv_class_parts.specs.ReadClasses.{ReadClass}
 use Rattle.tv_gv.specs.Extracted.{degree_to}
+use Rattle.tv_gv.specs.Progress.{last_weight}
 use Rattle.tv_cert.specs.declared.fault.CertFault.{CertFault}
 use Rattle.tv_cert.specs.declared.fault.CertFault.TheVariants.{Wide, Memory}
 use Rattle.tv_cert.specs.Verified.{IsCheckable}
 use Rattle.tv_cert.specs.Slopes.{IsSlopeOf}
-
-abbrev pub last_weight : Family ℤ → ℕ → ℕ
-last_weight f w = as_natural f.upto + w * degree_to f
 
 pub record IsPlan (f : Family ℤ) (k : Kept) (w : ℕ) (vs : List (List ℤ)) : Type 0 where
   pub checkable : IsCheckable f k

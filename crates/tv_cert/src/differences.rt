@@ -8,7 +8,7 @@ ghost use Rattle.tv_spec_series.specs.Families.{coefficient, coefficient_of};
 ghost use Rattle.tv_spec_katz.specs.Binomials.{power_sign};
 ghost use Rattle.tv_cert.specs.Differences.{value_at, AgreeThrough, IsFirstUnequal};
 
-use crate::numbers::{signed, whole};
+use tv_class_integers::{signed, whole};
 use tv_graded::Graded;
 use tv_lattice::class::Class;
 use tv_laurent::{Coefficient, Series};

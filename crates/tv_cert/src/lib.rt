@@ -2,16 +2,12 @@
 //! series, and doesn't know who wrote the report.
 #![tactic(auto)]
 
-mod begin;
 mod classes;
 mod differences;
 mod fault;
 mod lines;
-mod magnitudes;
-mod numbers;
 mod powers;
 mod product;
-mod raised;
 mod slopes;
 mod verdict;
 mod verification;

@@ -4,7 +4,8 @@ ghost use Rattle.std.specs.Prelude.{◌≡◌, ◌<◌, length, IfOk, IfErr};
 ghost use Rattle.tv_integers.specs.Kept.{classes_of};
 ghost use Rattle.tv_cert.specs.Verified.{IsCertFault};
 ghost use Rattle.tv_cert.specs.Slopes.{class_number};
-ghost use Rattle.tv_cert.specs.Plans.{IsPlan, IsPowerLine, ArePowerLines, last_weight};
+ghost use Rattle.tv_gv.specs.Progress.{last_weight};
+ghost use Rattle.tv_cert.specs.Plans.{IsPlan, IsPowerLine, ArePowerLines};
 
 use crate::fault::CertFault;
 use crate::powers::class_powers;

@@ -6,9 +6,8 @@ ghost use Rattle.tv_integers.specs.declared.genus_value.GenusValue.{GenusValue};
 ghost use Rattle.tv_class_integers.specs.Rows.{IsRow, IsTooWideAt};
 ghost use Rattle.tv_cert.specs.Powers.{values_sum, values_size};
 
-use crate::numbers::whole;
-use crate::raised::with_integer;
 use std::alloc::{AllocError, Global};
+use tv_class_integers::{whole, with_integer};
 use tv_integers::GenusValue;
 use tv_recurrence::RowFault;
 use tv_ring::Whole;

@@ -7,7 +7,8 @@ ghost use Rattle.tv_recurrence.specs.Parts.{parts_total, IsMultiple};
 ghost use Rattle.tv_recurrence.specs.Rows.{IsQuotientRow, IsRowTooWide};
 ghost use Rattle.tv_class_parts.specs.ReadClasses.{ReadClass, CanBePart, part_of};
 ghost use Rattle.tv_cert.specs.Verified.{IsCertFault};
-ghost use Rattle.tv_cert.specs.Plans.{IsPlan, ArePowerLines, IsProductLine, IsComputedTo, last_weight};
+ghost use Rattle.tv_gv.specs.Progress.{last_weight};
+ghost use Rattle.tv_cert.specs.Plans.{IsPlan, ArePowerLines, IsProductLine, IsComputedTo};
 
 use crate::fault::CertFault;
 use crate::weights::{base_of, degree_in, fault_at, last_weight};

@@ -5,10 +5,10 @@ ghost use Rattle.tv_laws_series.specs.Terms.{Terms, terms};
 ghost use Rattle.tv_cert.specs.Verified.{IsCheckable};
 ghost use Rattle.tv_cert.specs.Tested.{tested, tested_integer};
 
-use crate::numbers::{signed, whole};
 use crate::{Verdict, verify};
 use std::alloc::{AllocError, Global};
 use std::test::Fail;
+use tv_class_integers::{signed, whole};
 use tv_graded::Graded;
 use tv_integers::{Integers, Report};
 use tv_lattice::class::Class;

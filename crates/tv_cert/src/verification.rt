@@ -4,7 +4,6 @@ ghost use Rattle.std.specs.Prelude.{◌≤◌, IfOk, IfErr};
 ghost use Rattle.tv_cert.specs.Verified.{IsCheckable, IsVerdict, IsCertFault};
 ghost use Rattle.tv_cert.specs.Plans.{IsPlan};
 
-use crate::begin::first_lines;
 use crate::classes::all_classes;
 use crate::differences::first_difference;
 use crate::fault::CertFault;
@@ -14,6 +13,7 @@ use crate::slopes::{slope, wide_class};
 use crate::verdict::Verdict;
 use crate::weights::{base_of, degree_in};
 use std::alloc::Global;
+use tv_gv::first_lines;
 use tv_integers::Report;
 use tv_lattice::class::Class;
 

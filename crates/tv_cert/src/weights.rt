@@ -1,13 +1,13 @@
 //! Weights of exponents at the classes of a report, and faults at them.
 
-ghost use Rattle.std.specs.Prelude.{◌≡◌, ◌*◌, ◌≤◌, ◌<◌, ◌^◌, pos};
+ghost use Rattle.std.specs.Prelude.{◌≡◌, ◌*◌, ◌≤◌, ◌<◌, ◌^◌, pos, ◌-ℤ◌};
 ghost use Rattle.tv_spec_plane.specs.Web.{degree_of};
 ghost use Rattle.tv_laws_integers.specs.Closed.{IsClassTo};
 ghost use Rattle.tv_gv.specs.Extracted.{IsExtractable, degree_to};
-ghost use Rattle.tv_cert.specs.Plans.{last_weight, IsWeightBelow, IsAtWeight};
+ghost use Rattle.tv_gv.specs.Progress.{last_weight};
+ghost use Rattle.tv_cert.specs.Plans.{IsWeightBelow, IsAtWeight};
 
 use crate::fault::CertFault;
-use crate::numbers::exponent_of;
 use tv_graded::Graded;
 use tv_lattice::class::Class;
 use tv_recurrence::RowFault;
@@ -41,6 +41,15 @@ pub fn last_weight(family: &Graded<Whole>, slope: u64) -> usize
     ensures small { result ≤ 1600 }
 {
     family.upto() as usize + (slope * family.top() as u64) as usize
+}
+
+/// The exponent that has the weight, where the exponent 0 has the weight `base`.
+fn exponent_of(weight: usize, base: usize) -> i64
+    requires weight { weight < 2 ^ 31 }
+    requires base { base < 2 ^ 31 }
+    ensures value { result ≡ pos weight -ℤ pos base }
+{
+    weight as i64 - base as i64
 }
 
 /// The fault of a row, of a class, with its exponent for the weight.

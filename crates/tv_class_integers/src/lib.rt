@@ -15,7 +15,9 @@ mod values;
 pub use differences::{Difference, first_difference};
 pub use gathered::gathered_powers;
 pub use products::product_row;
+pub use raised::with_integer;
 pub use reading::{Reading, read};
+pub use signs::{signed, whole};
 
 #[cfg(test)]
 mod tests;

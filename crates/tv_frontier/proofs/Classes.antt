@@ -25,6 +25,7 @@ use Rattle.tv_laws_frontier.specs.Frontier.{is_of_state, of_state}
 use Rattle.tv_laws_frontier.specs.StateClasses.{HasClass}
 use Rattle.tv_laws_frontier.proofs.Crowded.{state-class}
 use Rattle.tv_assignment.specs.Size.{cells_of}
+use Rattle.tv_assigned_series.proofs.Entries.{product-small}
 
 abbrev AtMost : ℕ → ℤ → Type 0
 AtMost m x = unsigned_abs x ≤ m
@@ -37,12 +38,6 @@ plus-small : (p q s : ℕ) → p + q ≤ s → (u v : List ℤ) → AllByRecursi
 plus-small p q s h [] v small few = all-onto (AtMost q) (AtMost s) (λ x l. omega arith) v few
 plus-small p q s h (x ∷ u) [] small few = (let l = small.0 in omega arith, all-onto (AtMost p) (AtMost s) (λ y l. omega arith) u small.1)
 plus-small p q s h (x ∷ u) (y ∷ v) small few = (let k = small.0 in let l = few.0 in omega (arith, ints), plus-small p q s h u v small.1 few.1)
-
-product-small : (n : ℕ) (x : ℤ) → unsigned_abs x ≤ 402 → unsigned_abs (pos n *ℤ x) ≤ n * 402
-product-small n x h =
-    let size : unsigned_abs (pos n *ℤ x) ≡ n * unsigned_abs x = unsigned_abs-mul (pos n) x in
-    let more : n * unsigned_abs x ≤ n * 402 = mul-le-mul_left n h in
-    omega arith
 
 small-on : (w : Web) → AllByRecursion HasCoordinates w.points → (es : List CompactEdge) → AllByRecursion (HasRule w) es → (a : Assignment) → AllByRecursion (AtMost (cells_of a * 402)) (class_on w es a)
 small-on w small [] rules a = zeros-small (cells_of a * 402) (length w.points)

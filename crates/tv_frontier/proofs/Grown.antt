@@ -11,7 +11,7 @@ use Rattle.tv_spec_boxes.specs.Assignments.{Rows, class_of, same_choice}
 use Rattle.tv_spec_series.specs.Families.{Family}
 use Rattle.tv_laws_frontier.specs.Steps.{near_part}
 use Rattle.tv_laws_frontier.proofs.Listed.{choice_equality}
-use Rattle.tv_frontier.specs.Faults.{IsCrowded}
+use Rattle.tv_assigned_series.specs.FamilyFaults.{IsCrowded}
 use Rattle.tv_frontier.specs.Sums.{Addend}
 use Rattle.tv_frontier.specs.Rows.{after_of, row_addends, HasRoom, Holding}
 use Rattle.tv_frontier.specs.Layers.{AllHold, pair_addends, GrowsBy, CrowdedIn}

@@ -39,7 +39,7 @@ use Rattle.tv_laws_frontier.proofs.Signed.{state_within}
 use Rattle.tv_spec_partial.specs.Partial.{chosen}
 use Rattle.tv_assigned_series.specs.Terms.{IsCornerFrom}
 use Rattle.tv_assigned_series.proofs.Fronts.{size_convolution-multiples}
-use Rattle.tv_frontier.specs.Faults.{IsCrowded}
+use Rattle.tv_assigned_series.specs.FamilyFaults.{IsCrowded}
 use Rattle.tv_frontier.specs.Joining.{IsStage, IsJoin, moved_low, moved_at, moved_terms, IsOfState, join_number, IsJoined}
 
 pub moved_at-is : {A : Type 0} (r : Operations A) (s : Terms A) (k low : ℤ) (i : ℕ) → moved_at r s k low i ≡ coefficient r s ((low +ℤ pos i) -ℤ k)

@@ -1,6 +1,4 @@
-pub mod Entries
 pub mod Joined
-pub mod Told
 pub mod Picked
 pub mod Least
 pub mod Held

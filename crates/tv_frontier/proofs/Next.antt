@@ -21,7 +21,7 @@ use Rattle.tv_laws_counts.proofs.Assigned.{choices-once}
 use Rattle.tv_laws_counts.proofs.Degrees.{weights}
 use Rattle.tv_laws_frontier.proofs.StateClasses.{end_states}
 use Rattle.tv_laws_frontier.specs.Steps.{put, nothing, choices_on, states}
-use Rattle.tv_frontier.specs.Faults.{IsCrowded}
+use Rattle.tv_assigned_series.specs.FamilyFaults.{IsCrowded}
 use Rattle.tv_frontier.specs.Joining.{IsSpan, IsStage}
 use Rattle.tv_frontier.specs.Picks.{picks, put_by}
 use Rattle.tv_frontier.specs.Sums.{Addend}

@@ -37,7 +37,7 @@ use Rattle.tv_laws_frontier.specs.Frontier.{kept_upto, state_number}
 use Rattle.tv_laws_frontier.specs.Steps.{new_part}
 use Rattle.tv_laws_frontier.specs.StateClasses.{HasClass}
 use Rattle.tv_laws_frontier.proofs.StateClasses.{classes_step}
-use Rattle.tv_frontier.specs.Faults.{IsCrowded}
+use Rattle.tv_assigned_series.specs.FamilyFaults.{IsCrowded}
 use Rattle.tv_frontier.specs.Joining.{lowest_kept, IsStage, IsJoin, IsOfState, join_number, IsJoined}
 use Rattle.tv_frontier.specs.Sums.{Addend, added_up}
 use Rattle.tv_frontier.specs.Rows.{after_of, target, addend_of, row_addends, sizes_up, HasRoom, HasShape, Holding, KeepsRows, IsCrowdedBy, IsPart}

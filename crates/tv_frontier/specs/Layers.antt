@@ -21,7 +21,7 @@ use Rattle.tv_spec_boxes.specs.Assignments.{Rows, class_of, same_choice}
 use Rattle.tv_spec_partial.specs.Partial.{is_pending}
 use Rattle.tv_spec_series.specs.Families.{Family, classes}
 use Rattle.tv_laws_frontier.specs.Steps.{is_new, states, options, near_part}
-use Rattle.tv_frontier.specs.Faults.{IsCrowded}
+use Rattle.tv_assigned_series.specs.FamilyFaults.{IsCrowded}
 use Rattle.tv_frontier.specs.Sums.{Addend}
 use Rattle.tv_frontier.specs.Rows.{after_of, row_addends, HasRoom, HasShape, Holding, IsPart}
 

@@ -1,5 +1,4 @@
 pub mod Picks
-pub mod Faults
 pub mod Joining
 pub mod Sums
 pub mod Rows

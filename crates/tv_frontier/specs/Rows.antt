@@ -26,7 +26,7 @@ use Rattle.tv_spec_partial.specs.Partial.{chosen}
 use Rattle.tv_laws_frontier.specs.Frontier.{kept_upto, state_number}
 use Rattle.tv_laws_frontier.specs.Steps.{new_part, near_part}
 use Rattle.tv_laws_frontier.specs.StateClasses.{HasClass}
-use Rattle.tv_frontier.specs.Faults.{IsCrowded}
+use Rattle.tv_assigned_series.specs.FamilyFaults.{IsCrowded}
 use Rattle.tv_frontier.specs.Joining.{lowest_kept, join_number}
 use Rattle.tv_frontier.specs.Sums.{Addend, StartsAt, Holds}
 

@@ -1,17 +1,16 @@
 //! The states after some corners, one corner after the other. How a corner is joined is not known here.
 
 ghost use Rattle.std.specs.Prelude.{◌≡◌, ◌≤◌, length, unsigned_abs, IfOk, IfErr};
-ghost use Rattle.tv_frontier.specs.Faults.{OnWide, IsCrowded};
+ghost use Rattle.tv_assigned_series.specs.FamilyFaults.{OnWide, IsCrowded};
 ghost use Rattle.tv_frontier.specs.Joining.{IsSpan};
 ghost use Rattle.tv_frontier.specs.Layers.{IsLayer};
 
-use crate::fault::GlueFault;
 use crate::first::first_layer;
 use crate::joining::Stage;
 use crate::layer::{Layer, next_layer};
 use crate::lowest::{lesser, lowest_of};
 use std::alloc::{AllocError, Global};
-use tv_assigned_series::Corners;
+use tv_assigned_series::{Corners, GlueFault};
 use tv_degrees::grade::GradedWeb;
 use tv_ring::Ring;
 use tv_spec_plane::limits::GREATEST_DEGREE;

@@ -6,12 +6,11 @@ ghost use Rattle.tv_frontier.specs.Joining.{IsSpan, moved_terms};
 ghost use Rattle.tv_frontier.specs.Rows.{IsPart};
 ghost use Rattle.tv_frontier.specs.Layers.{IsLayer};
 
-use crate::class::class_of;
-use crate::fault::GlueFault;
 use crate::joining::{Stage, moved};
 use crate::layer::{Layer, without_classes};
 use crate::picks::nothing;
 use std::alloc::Global;
+use tv_assigned_series::{GlueFault, class_of};
 use tv_assignment::Assignment;
 use tv_graded::Graded;
 use tv_laurent::Series;

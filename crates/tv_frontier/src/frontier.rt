@@ -4,18 +4,17 @@
 ghost use Rattle.std.specs.Prelude.{◌≡◌, ◌≤◌, length, unsigned_abs, IfOk, IfErr};
 ghost use Rattle.tv_spec_boxes.specs.Assignments.{no_legs};
 ghost use Rattle.tv_spec_series.specs.Full.{IsFull};
-ghost use Rattle.tv_frontier.specs.Faults.{OnWide, IsCrowded};
+ghost use Rattle.tv_assigned_series.specs.FamilyFaults.{OnWide, IsCrowded};
 ghost use Rattle.tv_frontier.specs.Frontiers.{IsFrontier};
 
 use crate::after::{layer_after, span_of};
-use crate::fault::GlueFault;
 use crate::joining::Stage;
 use crate::signed::signed_part;
 use crate::state::State;
 use crate::states::{pending_edges, states_of};
 use std::alloc::Global;
 use std::marker::Model;
-use tv_assigned_series::Corners;
+use tv_assigned_series::{Corners, GlueFault};
 use tv_degrees::grade::GradedWeb;
 use tv_graded::Graded;
 use tv_ring::Ring;

@@ -5,12 +5,11 @@ ghost use Rattle.std.specs.Prelude.{◌≡◌, ◌<◌, ◌≤◌, ◌^◌, ◌�
 ghost use Rattle.tv_spec_plane.specs.Web.{degree_of};
 ghost use Rattle.tv_spec_boxes.specs.Assignments.{class_difference};
 ghost use Rattle.tv_spec_series.specs.Families.{coefficient};
-ghost use Rattle.tv_frontier.specs.Faults.{OnWide, IsCrowded};
+ghost use Rattle.tv_assigned_series.specs.FamilyFaults.{OnWide, IsCrowded};
 ghost use Rattle.tv_frontier.specs.Joining.{IsSpan, IsStage, IsJoin, moved_low, moved_terms, IsOfState, IsJoined};
 
-use crate::fault::{GlueFault, of_ring, of_series};
 use std::alloc::Global;
-use tv_assigned_series::Corners;
+use tv_assigned_series::{Corners, GlueFault, of_ring, of_series};
 use tv_assignment::Assignment;
 use tv_cells::legs::Legs;
 use tv_degrees::grade::GradedWeb;

@@ -4,14 +4,13 @@
 ghost use Rattle.std.specs.Prelude.{◌∷◌, [], IfErr, OnOk};
 ghost use Rattle.tv_spec_series.specs.Families.{classes};
 ghost use Rattle.tv_laws_frontier.specs.StateClasses.{HasClass};
-ghost use Rattle.tv_frontier.specs.Faults.{OnWide};
+ghost use Rattle.tv_assigned_series.specs.FamilyFaults.{OnWide};
 ghost use Rattle.tv_frontier.specs.Joining.{IsStage, IsJoin, IsOfState};
 ghost use Rattle.tv_frontier.specs.Rows.{HasShape, KeepsRows, IsCrowdedBy, IsPart};
 
-use crate::fault::{GlueFault, of_series};
 use crate::joining::{Join, Stage, joined};
 use std::alloc::Global;
-use tv_assigned_series::Corners;
+use tv_assigned_series::{Corners, GlueFault, of_series};
 use tv_graded::Graded;
 use tv_lattice::class::Class;
 use tv_laurent::Series;

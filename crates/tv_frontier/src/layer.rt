@@ -3,16 +3,15 @@
 ghost use Rattle.std.specs.Prelude.{◌≡◌, ◌≤◌, suc, pos, length, unsigned_abs, IfOk, IfErr, OnOk};
 ghost use Rattle.std.specs.List.{AllByRecursion};
 ghost use Rattle.tv_spec_series.specs.Families.{without_rows};
-ghost use Rattle.tv_frontier.specs.Faults.{OnWide, IsCrowded};
+ghost use Rattle.tv_assigned_series.specs.FamilyFaults.{OnWide, IsCrowded};
 ghost use Rattle.tv_frontier.specs.Joining.{IsStage};
 ghost use Rattle.tv_frontier.specs.Layers.{AllShaped, classed, layer_addends, GrowsBy, CrowdedIn, IsLayer, IsStep};
 
-use crate::fault::GlueFault;
 use crate::joining::Stage;
 use crate::layers::join_state;
 use crate::steps::{Step, step_of};
 use std::alloc::{AllocError, Global};
-use tv_assigned_series::Corners;
+use tv_assigned_series::{Corners, GlueFault};
 use tv_assignment::Assignment;
 use tv_graded::Graded;
 use tv_ring::Ring;

@@ -3,8 +3,6 @@
 #![tactic(auto)]
 
 mod after;
-mod class;
-mod fault;
 mod first;
 mod frontier;
 mod joining;
@@ -20,7 +18,6 @@ mod state;
 mod states;
 mod steps;
 
-pub use fault::GlueFault;
 pub use frontier::{Frontier, last_part};
 pub use state::State;
 

@@ -7,9 +7,9 @@ ghost use Rattle.tv_spec_plane.specs.Web.{class_sign};
 ghost use Rattle.tv_frontier.specs.Sums.{StartsAt};
 ghost use Rattle.tv_frontier.specs.Signs.{signed_at, signed_terms, signed_family};
 
-use crate::fault::GlueFault;
 use crate::joining::{coefficient_at, count_from};
 use std::alloc::Global;
+use tv_assigned_series::GlueFault;
 use tv_degrees::grade::GradedWeb;
 use tv_degrees::sign::sign;
 use tv_graded::Graded;

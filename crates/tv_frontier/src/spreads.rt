@@ -9,10 +9,10 @@ ghost use Rattle.tv_cells.specs.Extras.{empty_legs};
 ghost use Rattle.tv_frontier.specs.Picks.{put_by};
 ghost use Rattle.tv_frontier.specs.Joining.{IsStage, IsJoin};
 
-use crate::class::class_of;
 use crate::joining::{Join, Stage};
 use crate::picks::{nothing, put};
 use std::alloc::{AllocError, Global};
+use tv_assigned_series::class_of;
 use tv_assignment::{Assignment, all_legs, edge_costs, overlap_cost};
 use tv_cells::legs::Legs;
 use tv_degrees::grade::GradedWeb;

@@ -9,13 +9,13 @@ ghost use Rattle.tv_frontier.specs.Rows.{IsPart};
 ghost use Rattle.tv_frontier.specs.Layers.{IsLayer};
 ghost use Rattle.tv_frontier.specs.Frontiers.{IsPartialFamily};
 
-use crate::fault::GlueFault;
 use crate::joining::Stage;
 use crate::layer::Layer;
 use crate::picks::{pending_flags, takes};
 use crate::signed::signed_part;
 use crate::state::State;
 use std::alloc::{AllocError, Global};
+use tv_assigned_series::GlueFault;
 use tv_assignment::Assignment;
 use tv_degrees::grade::GradedWeb;
 use tv_graded::Graded;

@@ -24,7 +24,7 @@ use Rattle.tv_laws_families.specs.Glued.{IsGlued}
 use Rattle.tv_laws_families.proofs.Addends.{IsTermsOf}
 use Rattle.tv_laws_families.proofs.Glued.{glued-none, glued-more}
 use Rattle.tv_laws_families.proofs.Full.{glued-full}
-use Rattle.tv_glue.specs.Faults.{IsCrowded}
+use Rattle.tv_assigned_series.specs.FamilyFaults.{IsCrowded}
 use Rattle.tv_glue.proofs.Crowded.{open-diagrams, crowded-series, crowded-sum}
 
 -- assignment number k of the list

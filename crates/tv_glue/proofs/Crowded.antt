@@ -25,7 +25,7 @@ use Rattle.tv_assigned_series.specs.Terms.{IsTooMany}
 use Rattle.tv_laws_families.specs.Glued.{IsGlued}
 use Rattle.tv_laws_families.proofs.Addends.{IsTermsOf}
 use Rattle.tv_laws_families.proofs.Wide.{sum-crowd}
-use Rattle.tv_glue.specs.Faults.{IsCrowded}
+use Rattle.tv_assigned_series.specs.FamilyFaults.{IsCrowded}
 
 -- the legs on open edges are diagrams
 pub open-diagrams : (w : Web) → AllByRecursion IsDiagram (no_legs w)

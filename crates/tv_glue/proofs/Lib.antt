@@ -1,4 +1,3 @@
-pub mod Entries
 pub mod Crowded
 pub mod Adding
 mod Told

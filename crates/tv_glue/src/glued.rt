@@ -7,12 +7,13 @@ ghost use Rattle.tv_spec_series.specs.Families.{without_rows};
 ghost use Rattle.tv_spec_series.specs.Full.{IsFull};
 ghost use Rattle.tv_laws_families.specs.Glued.{IsGlued};
 ghost use Rattle.tv_assignment.specs.Size.{IsOn};
-ghost use Rattle.tv_glue.specs.Faults.{OnWide, IsCrowded, Names, of_prepare};
+ghost use Rattle.tv_assigned_series.specs.FamilyFaults.{OnWide, IsCrowded};
+ghost use Rattle.tv_glue.specs.Faults.{Names, of_prepare};
 
-use crate::class::class_of;
-use crate::fault::{GlueFault, of_ring, of_series};
 use std::alloc::{AllocError, Global};
-use tv_assigned_series::{Corners, PrepareFault, assignment_series};
+use tv_assigned_series::{
+    Corners, GlueFault, PrepareFault, assignment_series, class_of, of_ring, of_series,
+};
 use tv_assignment::{Assignment, assignments_of};
 use tv_degrees::grade::GradedWeb;
 use tv_graded::Graded;

@@ -2,12 +2,10 @@
 //! edge rule and counts no boxes itself.
 #![tactic(auto)]
 
-mod class;
-mod fault;
 mod glued;
 
-pub use fault::GlueFault;
 pub use glued::{full, full_over};
+pub use tv_assigned_series::GlueFault;
 
 #[cfg(test)]
 mod tests;

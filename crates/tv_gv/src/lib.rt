@@ -8,6 +8,7 @@ mod fault;
 mod series;
 mod values;
 
+pub use begin::first_lines;
 pub use extraction::extract;
 pub use fault::GvFault;
 

@@ -14,7 +14,7 @@ use Rattle.tv_spec_boxes.specs.Numbers.{lowest, box_bound, crowd_on, crowd}
 use Rattle.tv_spec_boxes.proofs.Vectors.{same_vector_tells}
 use Rattle.tv_laws_families.proofs.ZeroClass.{nothing, assignments-none, class_on-nothing}
 use Rattle.tv_laws_families.proofs.ZeroCrowd.{zero_crowd}
-use Rattle.tv_glue.specs.Faults.{IsCrowded}
+use Rattle.tv_assigned_series.specs.FamilyFaults.{IsCrowded}
 
 -- of another class than zero there is none in degree 0
 other_none : (w : Web) (v : List ℤ) (b : Bool) → as_natural (degree_of w.heights v) ≡ 0 → same_vector (class_of w (nothing (compact w))) v ≡ false → assignments_of w v ≡ []

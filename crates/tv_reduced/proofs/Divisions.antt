@@ -31,7 +31,7 @@ use Rattle.tv_laws_families.proofs.Rows.{IsGiven, quotient_from, given_quotient,
 use Rattle.tv_laws_families.proofs.Spread.{spread-wide}
 use Rattle.tv_reduced.specs.declared.fault.ReducedFault.{ReducedFault}
 use Rattle.tv_reduced.specs.declared.fault.ReducedFault.TheVariants.{Crowd, Spread, Memory}
-use Rattle.tv_glue.specs.Faults.{IsCrowded}
+use Rattle.tv_assigned_series.specs.FamilyFaults.{IsCrowded}
 use Rattle.tv_reduced.specs.Faults.{IsSpreadOut, OnCrowd, OnSpread, IsReducedFault}
 use Rattle.tv_reduced.specs.Orders.{StartsFrom, ReachedBy, IsOrder}
 use Rattle.tv_reduced.proofs.Crowds.{crowded_later}

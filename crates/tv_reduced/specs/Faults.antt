@@ -14,9 +14,9 @@ use Rattle.tv_spec_plane.specs.Web.{Web}
 use Rattle.tv_spec_boxes.specs.Assignments.{no_legs}
 use Rattle.tv_spec_boxes.specs.Classes.{IsClass}
 use Rattle.tv_spec_series.specs.Reduced.{IsSpread}
-use Rattle.tv_glue.specs.declared.fault.GlueFault.{GlueFault}
-use Rattle.tv_glue.specs.declared.fault.GlueFault.TheVariants.{Wide as TooCrowded, Memory as NoMemoryToGlue}
-use Rattle.tv_glue.specs.Faults.{IsCrowded}
+use Rattle.tv_assigned_series.specs.declared.family_fault.GlueFault.{GlueFault}
+use Rattle.tv_assigned_series.specs.declared.family_fault.GlueFault.TheVariants.{Wide as TooCrowded, Memory as NoMemoryToGlue}
+use Rattle.tv_assigned_series.specs.FamilyFaults.{IsCrowded}
 use Rattle.tv_graded.specs.declared.fault.GradedFault.{GradedFault}
 use Rattle.tv_graded.specs.declared.fault.GradedFault.TheVariants.{Wide as TooWide, Memory as NoMemoryToDivide}
 use Rattle.tv_reduced.specs.declared.fault.ReducedFault.{ReducedFault}

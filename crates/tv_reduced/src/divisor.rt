@@ -7,7 +7,7 @@ ghost use Rattle.tv_spec_series.specs.Families.{coefficient};
 ghost use Rattle.tv_spec_plane.specs.Graded.{IsGraded};
 ghost use Rattle.tv_spec_series.specs.Full.{IsFull};
 ghost use Rattle.tv_spec_series.specs.ReducedFamilies.{IsDivisor};
-ghost use Rattle.tv_glue.specs.Faults.{IsCrowded};
+ghost use Rattle.tv_assigned_series.specs.FamilyFaults.{IsCrowded};
 ghost use Rattle.tv_reduced.specs.Faults.{OnCrowd};
 ghost use Rattle.tv_reduced.specs.Divisors.{counted, from_zero};
 

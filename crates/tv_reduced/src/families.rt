@@ -10,7 +10,7 @@ ghost use Rattle.tv_spec_series.specs.Families.{divided};
 ghost use Rattle.tv_graded.specs.Calls.{IsDividedWide};
 ghost use Rattle.tv_spec_series.specs.Full.{IsFull};
 ghost use Rattle.tv_spec_series.specs.ReducedFamilies.{IsReducedFamily};
-ghost use Rattle.tv_glue.specs.Faults.{IsCrowded};
+ghost use Rattle.tv_assigned_series.specs.FamilyFaults.{IsCrowded};
 ghost use Rattle.tv_reduced.specs.Faults.{IsReducedFault, OnCrowd, OnSpread};
 
 use crate::divisor::divisor;

@@ -8,10 +8,10 @@ use Rattle.tv_lattice.proofs.Sums.{small-fits}
 use Rattle.tv_spec_boxes.specs.Assignments.{class_difference}
 use Rattle.tv_laurent.specs.SeriesCalls.{IsProductWide}
 use Rattle.tv_assigned_series.proofs.Keeping.{read-place}
-use Rattle.tv_frontier.specs.Faults.{IsCrowded}
+use Rattle.tv_assigned_series.specs.FamilyFaults.{IsCrowded}
 use Rattle.tv_frontier.proofs.Joined.{moved-small, moved-joined, corner-crowded, mul-within, mul-joined, mul-reaches, mul-crowded}
 use Rattle.tv_frontier.proofs.Next.{span-of}
-use Rattle.tv_frontier.proofs.Told.{ring-told, series-told}
+use Rattle.tv_assigned_series.proofs.FamilyTold.{ring-told, series-told}
 use Rattle.tv_frontier.proofs.joining.joined.Goals as goal
 
 pub returns-then-low-stage-clause-joined : goal.returns-then-low-stage-clause-joined

@@ -6,7 +6,7 @@ use Rattle.tv_graded.specs.Calls.{IsAddedWide}
 use Rattle.tv_frontier.specs.Joining.{IsOfState}
 use Rattle.tv_frontier.specs.Rows.{IsCrowdedBy}
 use Rattle.tv_frontier.proofs.RowAdded.{long, target-long, target-small, left-is, skipped, row-place, row-held, row-crowded}
-use Rattle.tv_frontier.proofs.Told.{series-told}
+use Rattle.tv_assigned_series.proofs.FamilyTold.{series-told}
 use Rattle.tv_frontier.proofs.joins.join_row.Goals as goal
 
 pub plus-requires-clause-same_length : goal.plus-requires-clause-same_length

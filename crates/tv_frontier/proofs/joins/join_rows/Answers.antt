@@ -4,7 +4,7 @@ use Rattle.std.proofs.lemmas.List.{length-map, take-append-drop}
 use Rattle.tv_spec_series.specs.Families.{classes, row}
 use Rattle.tv_frontier.specs.Rows.{KeepsRows, IsCrowdedBy}
 use Rattle.tv_frontier.proofs.RowAdded.{rows-none, rows-next, rows-crowded, row-of-state, row-has, row-taken, row-among}
-use Rattle.tv_frontier.proofs.Told.{on-wide}
+use Rattle.tv_assigned_series.proofs.FamilyTold.{on-wide}
 use Rattle.tv_frontier.proofs.joins.join_rows.Goals as goal
 
 pub loop-k-init : goal.loop-k-init

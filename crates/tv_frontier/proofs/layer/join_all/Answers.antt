@@ -7,7 +7,7 @@ use Rattle.tv_laws_frontier.specs.Steps.{states}
 use Rattle.tv_frontier.specs.Layers.{state_addends, classed, layer_addends, GrowsBy, CrowdedIn}
 use Rattle.tv_frontier.proofs.Among.{grows-none, grows-next, crowded-among}
 use Rattle.tv_frontier.proofs.Next.{among-at, part-at, parts-long, classed-taken, classed-long}
-use Rattle.tv_frontier.proofs.Told.{on-wide}
+use Rattle.tv_assigned_series.proofs.FamilyTold.{on-wide}
 use Rattle.tv_frontier.proofs.layer.join_all.Goals as goal
 
 pub loop-k-init : goal.loop-k-init

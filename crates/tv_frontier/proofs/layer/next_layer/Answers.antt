@@ -2,11 +2,11 @@ use Rattle.std.proofs.Common.{sym, ap, subst, suc, length, arith}
 use Rattle.std.specs.Prelude.{◌≡◌, pos, List}
 use Rattle.std.specs.List.{AllByRecursion}
 use Rattle.tv_spec_series.specs.Families.{Family, without_rows}
-use Rattle.tv_frontier.specs.Faults.{IsCrowded}
+use Rattle.tv_assigned_series.specs.FamilyFaults.{IsCrowded}
 use Rattle.tv_frontier.specs.Rows.{HasShape}
 use Rattle.tv_frontier.specs.Layers.{classed, layer_addends, CrowdedIn, IsLayer}
 use Rattle.tv_frontier.proofs.Next.{all-shaped, layer-next, layer-crowded, whole-back}
-use Rattle.tv_frontier.proofs.Told.{on-wide}
+use Rattle.tv_assigned_series.proofs.FamilyTold.{on-wide}
 use Rattle.tv_frontier.proofs.layer.next_layer.Goals as goal
 
 pub join_all-requires-clause-shaped : goal.join_all-requires-clause-shaped

@@ -13,7 +13,7 @@ use Rattle.tv_frontier.specs.Rows.{HasShape, IsCrowdedBy}
 use Rattle.tv_frontier.specs.Layers.{pair_addends, CrowdedIn}
 use Rattle.tv_frontier.proofs.Spread.{option-few}
 use Rattle.tv_frontier.proofs.Pair.{added-is, seen-is, after-is, near-is, both-long, sum-long, both-small, all-set, great-stays, absent-stays, pair-grows, pair-crowded}
-use Rattle.tv_frontier.proofs.Told.{on-wide}
+use Rattle.tv_assigned_series.proofs.FamilyTold.{on-wide}
 use Rattle.tv_frontier.proofs.layers.join_pair.Goals as goal
 
 pub spread_over-requires : goal.spread_over-requires

@@ -7,13 +7,13 @@ use Rattle.std.specs.Prelude.{List}
 use Rattle.tv_spec_boxes.specs.Assignments.{Rows}
 use Rattle.tv_spec_series.specs.Families.{classes}
 use Rattle.tv_laws_frontier.specs.Steps.{options, nothing}
-use Rattle.tv_frontier.specs.Faults.{OnWide}
+use Rattle.tv_assigned_series.specs.FamilyFaults.{OnWide}
 use Rattle.tv_frontier.specs.Picks.{put_by}
 use Rattle.tv_frontier.specs.Layers.{pair_addends, state_addends, GrowsBy, CrowdedIn}
 use Rattle.tv_frontier.proofs.Among.{grows-none, grows-next, crowded-among}
 use Rattle.tv_frontier.proofs.Next.{spread-is, among-at, keys-once, take-next}
 use Rattle.tv_frontier.proofs.Pair.{state-few}
-use Rattle.tv_frontier.proofs.Told.{on-wide}
+use Rattle.tv_assigned_series.proofs.FamilyTold.{on-wide}
 use Rattle.tv_frontier.proofs.layers.join_state.Goals as goal
 
 pub spread_over-requires : goal.spread_over-requires

@@ -2,9 +2,9 @@ use Rattle.std.proofs.Common.{Err, ap, w64, arith}
 use Rattle.std.proofs.lemmas.Int.{to_z-of_z}
 use Rattle.tv_lattice.proofs.Sums.{small-fits}
 use Rattle.tv_graded.specs.Calls.{IsAddedWide}
-use Rattle.tv_glue.specs.Faults.{IsCrowded}
+use Rattle.tv_assigned_series.specs.FamilyFaults.{IsCrowded}
 use Rattle.tv_glue.proofs.Adding.{is_next, next-one_each, next-few, next-place, next-upto, next-glued, next-crowded, next-too_many}
-use Rattle.tv_glue.proofs.Told.{ring-told, series-told}
+use Rattle.tv_assigned_series.proofs.FamilyTold.{ring-told, series-told}
 use Rattle.tv_glue.proofs.glued.add.Goals as goal
 
 pub class_of-requires-clause-one_each : goal.class_of-requires-clause-one_each

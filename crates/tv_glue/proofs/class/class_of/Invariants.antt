@@ -1,5 +1,0 @@
-use Rattle.tv_glue.proofs.Entries.{IsWritten}
-use Rattle.tv_glue.proofs.class.class_of.Given as goal
-
-abbrev pub invariant-loop-k : goal.invariant-loop-k
-invariant-loop-k l = IsWritten l.web l.assignment l.k l.entries.items
