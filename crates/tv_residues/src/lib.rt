@@ -6,6 +6,8 @@ mod corners;
 mod families;
 mod frontiers;
 #[cfg(test)]
+mod comparisons;
+#[cfg(test)]
 mod tests;
 
 pub use corners::{corner_series, slices};
