@@ -4,8 +4,12 @@
 
 mod corners;
 mod families;
+mod frontiers;
+#[cfg(test)]
+mod comparisons;
 #[cfg(test)]
 mod tests;
 
 pub use corners::{corner_series, slices};
 pub use families::{full, reduced};
+pub use frontiers::{frontier, last_part};
