@@ -2,11 +2,11 @@
 //! memory can be wanting. It computes nothing itself.
 #![tactic(auto)]
 
+#[cfg(test)]
+mod comparisons;
 mod corners;
 mod families;
 mod frontiers;
-#[cfg(test)]
-mod comparisons;
 #[cfg(test)]
 mod tests;
 
