@@ -6,9 +6,9 @@ ghost use Rattle.tv_spec_series.specs.Full.{IsFull};
 ghost use Rattle.tv_frontier.specs.Frontiers.{IsFrontier};
 
 use std::alloc::{AllocError, Global};
-use tv_assigned_series::Corners;
+use tv_assigned_series::{Corners, GlueFault};
 use tv_degrees::grade::GradedWeb;
-use tv_frontier::{Frontier, GlueFault};
+use tv_frontier::Frontier;
 use tv_graded::Graded;
 use tv_ring::Ring;
 use tv_spec_plane::limits::GREATEST_DEGREE;
