@@ -5,6 +5,7 @@
 -- IsAfter w d t h g p  == h on the pending edges and g on the new ones are of degree at most d together, and number p of the states
 --                         after corner t is the choice after them
 -- GoesNowhere w d t h g == they are of a higher degree together, or no state after corner t is the choice after them
+-- NeedsAtMost w d t next h b g == the state after them, known through the bounds next, needs h through b at most
 -- Suffices w d n t next h b == whatever of the states after corner t, known through the bounds next, the state h is joined to, b is
 --                         enough for it
 -- AllSuffice w d n t next now == so it is of each state before corner t
@@ -37,6 +38,10 @@ abbrev pub GoesNowhere : Web → ℕ → ℕ → List Rows → List Rows → Typ
 GoesNowhere w d t h g =
     (pos d <ℤ degree_of w.heights (class_of w (near_part w t h g)))
     ⊎ AllByRecursion (λ (k : List Rows). same_choice (after_of w t h g) k ≡ false) (states w d (suc t))
+
+abbrev pub NeedsAtMost : Web → ℕ → ℕ → List ℤ → List Rows → ℤ → List Rows → Type 0
+NeedsAtMost w d t next h b g =
+    (p : ℕ) → IsAfter w d t h g p → (slice_index_or next p (pos 0) -ℤ shift_of w t h g) ≤ℤ b
 
 abbrev pub Suffices : Web → ℕ → ℤ → ℕ → List ℤ → List Rows → ℤ → Type 0
 Suffices w d n t next h b =
