@@ -60,11 +60,6 @@ module _ (w : Web) (d t : ℕ) (h g : List Rows) (base added : Assignment) (c e 
 
 -- ---- the families of the choices
 
-pub all-set : {X : Type 0} (P : X → Type 0) (xs : List X) (p : ℕ) (x : X) → AllByRecursion P xs → P x → AllByRecursion P (set xs p x)
-all-set P [] p x all here = tt
-all-set P (y ∷ xs) zero x all here = (here, all.1)
-all-set P (y ∷ xs) (suc p) x all here = (all.0, all-set P xs p x all.1 here)
-
 module _ {A : Type 0} (IsValue : A → Type 0) (r : Operations A) (w : Web) (d : ℕ) (n : ℤ) (t : ℕ) (h g : List Rows) (us : List (List ℤ)) (keys : List (List Rows)) (parts : List (Family A)) where
   abbrev adds : List Rows → List Addend
   adds = pair_addends w d n t h g us
