@@ -2,7 +2,8 @@
 use Rattle.std.specs.Prelude.{◌≡◌, Contains, ℕ, zero, suc, ◌+◌, ◌<◌, ◌≤◌, Bool, true, false, ℤ, pos, ◌+ℤ◌, ◌-ℤ◌, ◌≤ℤ◌, ◌<ℤ◌, List, [], ◌∷◌, ◌++◌, length, map, unsigned_abs}
 use Rattle.std.specs.Int.{int_min, int_max}
 use Rattle.std.specs.List.{AllByRecursion, IsDistinct}
-use Rattle.std.proofs.Common.{refl, sym, ap, subst, ◌∙◌, inl, inr, arith, get_or}
+use Rattle.std.proofs.Common.{refl, sym, ap, subst, ◌∙◌, inl, inr, arith, get_or, take}
+use Rattle.std.proofs.lemmas.List.{get_or_default}
 use Rattle.std.proofs.Math.ListN.{set}
 use Rattle.std.proofs.lemmas.Int.{ints, clamps}
 use Rattle.tv_lemmas.proofs.Members.{all-onto, all-at}
@@ -12,9 +13,10 @@ use Rattle.tv_spec_boxes.specs.Assignments.{Rows, no_legs}
 use Rattle.tv_spec_boxes.specs.Numbers.{lowest}
 use Rattle.tv_spec_series.specs.Families.{Family, without_rows}
 use Rattle.tv_laws_frontier.specs.Frontier.{kept_upto}
+use Rattle.tv_laws_frontier.specs.Steps.{states, options}
 use Rattle.tv_frontier.specs.Joining.{IsSpan, IsRange, IsStage}
 use Rattle.tv_frontier.specs.Rows.{HasShape, IsBound}
-use Rattle.tv_frontier.specs.Bounds.{uptos, AreBounds}
+use Rattle.tv_frontier.specs.Bounds.{uptos, Suffices, AllSuffice, AreBounds, AllReach}
 use Rattle.tv_frontier.specs.Layers.{AllShaped, AreWithout}
 
 pub span-bound : (w : Web) (d : ℕ) (n low m : ℤ) → IsSpan w d n low m → IsBound w d n m
@@ -33,7 +35,7 @@ stage-through w d n low m b t stage bound = record {
   upto = bound.last;
   rises = (let e = stage.floor in let f = bound.first in omega (arith, ints));
   small_low = stage.small_low;
-  small_upto = (let o = stage.order in let q = stage.lowest in let e = stage.floor in let l = stage.small_low in let f = bound.first in let h = bound.last in omega (arith, ints));
+  small_upto = (let o = stage.order in let q = stage.lowest in let e = stage.floor in let l = stage.small_low in let f = bound.first in let h = bound.last in omega (arith, ints, clamps));
   corner = stage.corner;
 }
 
@@ -80,3 +82,31 @@ shaped-set w d [] fs p b f shaped within at_bound here = absurd (omega arith)
 shaped-set w d (x ∷ bs) [] p b f shaped within at_bound here = absurd shaped
 shaped-set w d (x ∷ bs) (y ∷ fs) zero b f shaped within at_bound here = (subst (λ (z : ℤ). HasShape w d z f) at_bound here, shaped.1)
 shaped-set w d (x ∷ bs) (y ∷ fs) (suc p) b f shaped within at_bound here = (shaped.0, shaped-set w d bs fs p b f shaped.1 (omega arith) at_bound here)
+
+pub without-next : {A : Type 0} (w : Web) (d : ℕ) (bs : List ℤ) (fs gs : List (Family A)) (k : ℕ) (b : ℤ) (f : Family A) → AreWithout w d (take k bs) fs → k < length bs → b ≡ get_or bs k b → gs ≡ fs ++ f ∷ [] → f ≡ without_rows w.heights (pos d) b → AreWithout w d (take (k + 1) bs) gs
+without-next w d [] fs gs k b f none within at_bound pushed here = absurd (omega arith)
+without-next {A = A} w d (x ∷ bs) [] gs zero b f none within at_bound pushed here =
+    subst (λ (zs : List (Family A)). AreWithout w d (x ∷ []) zs) (sym pushed) (here ∙ ap (without_rows w.heights (pos d)) at_bound, tt)
+without-next w d (x ∷ bs) (y ∷ fs) gs zero b f none within at_bound pushed here = absurd none
+without-next w d (x ∷ bs) [] gs (suc k) b f none within at_bound pushed here = absurd none
+without-next {A = A} w d (x ∷ bs) (y ∷ fs) gs (suc k) b f none within at_bound pushed here =
+    let up : suc k + 1 ≡ suc (k + 1) = omega arith in
+    rw up (subst (λ (zs : List (Family A)). AreWithout w d (x ∷ take (k + 1) bs) zs) (sym pushed) (none.0, without-next w d bs fs (fs ++ f ∷ []) k b f none.1 (omega arith) at_bound refl here))
+
+-- ---- what is told of one of them
+
+uptos-at : {A : Type 0} (fs : List (Family A)) (k : ℕ) (f : Family A) → k < length fs → f ≡ get_or fs k f → get_or (uptos fs) k (pos 0) ≡ f.upto
+uptos-at [] k f within read = absurd (omega arith)
+uptos-at (x ∷ fs) zero f within read = ap (λ z. z.upto) (sym read)
+uptos-at (x ∷ fs) (suc k) f within read = uptos-at fs k f (omega arith) read
+
+pub reach-at : {A : Type 0} (n : ℤ) (fs : List (Family A)) (k : ℕ) (f : Family A) → AllReach n (uptos fs) → k < length fs → f ≡ get_or fs k f → n ≤ℤ f.upto
+reach-at n [] k f all within read = absurd (omega arith)
+reach-at n (x ∷ fs) zero f all within read = subst (λ (z : Family _). n ≤ℤ z.upto) (sym read) all.0
+reach-at n (x ∷ fs) (suc k) f all within read = reach-at n fs k f all.1 (omega arith) read
+
+pub suffices-at : {A : Type 0} (w : Web) (d : ℕ) (n : ℤ) (t : ℕ) (next : List ℤ) (keys : List (List Rows)) (fs : List (Family A)) (k : ℕ) (h : List Rows) (f : Family A) → keys ≡ states w d t → AllSuffice w d n t next (uptos fs) → k < length keys → k < length fs → h ≡ get_or keys k h → f ≡ get_or fs k f → Suffices w d n t next h f.upto
+suffices-at w d n t next keys fs k h f is all within also at_key at_part =
+    let there : k < length (states w d t) = (let e = ap length is in omega arith) in
+    let key : get_or (states w d t) k [] ≡ h = ap (λ ks. get_or ks k []) (sym is) ∙ (get_or_default keys k [] h within ∙ sym at_key) in
+    subst (Suffices w d n t next h) (uptos-at fs k f also at_part) (subst (λ (z : List Rows). Suffices w d n t next z (get_or (uptos fs) k (pos 0))) key (all k there))

@@ -23,6 +23,7 @@ use Rattle.tv_assignment.proofs.Listed.{cells-few}
 use Rattle.tv_frontier.specs.Picks.{picks, put_by}
 use Rattle.tv_frontier.specs.Sums.{Addend}
 use Rattle.tv_frontier.specs.Rows.{after_of, HasRoom, Holding, KeepsRows, IsCrowdedBy}
+use Rattle.tv_frontier.specs.Bounds.{IsAfter}
 use Rattle.tv_frontier.specs.Layers.{pair_addends, GrowsBy, CrowdedIn}
 use Rattle.tv_frontier.proofs.Grown.{stays, grows, crowded-at, pair-none, pair-great, pair-here}
 use Rattle.tv_frontier.proofs.Classes.{class-small, sum-entries}
@@ -57,6 +58,18 @@ module _ (w : Web) (d t : ℕ) (h g : List Rows) (base added : Assignment) (c e 
   both-small graded coordinates rule degree first new =
       let few = spread-few w (map (is_pending t) (compact w)) h base (part ∙ put-by-is (is_pending t) (compact w) h (nothing (compact w))) (le_trans (state-few w d t h graded first) degree) in
       sum-entries c e (class-small w d c base coordinates rule few (sym class)) (new-small w d t g added graded degree new added-is coordinates rule e also)
+
+module _ (w : Web) (d t : ℕ) (h g : List Rows) where
+  pub absent-after : (ks : List (List Rows)) (x : List Rows) → ks ≡ states w d (suc t) → x ≡ after_of w t h g → AllByRecursion (λ k. same_choice x k ≡ false) ks → AllByRecursion (λ k. same_choice (after_of w t h g) k ≡ false) (states w d (suc t))
+  absent-after ks x is after absent =
+      subst (λ (zs : List (List Rows)). AllByRecursion (λ k. same_choice (after_of w t h g) k ≡ false) zs) is (subst (λ (z : List Rows). AllByRecursion (λ k. same_choice z k ≡ false) ks) after absent)
+
+  pub is-after : (ks : List (List Rows)) (p : ℕ) (x : List Rows) → ks ≡ states w d (suc t) → x ≡ after_of w t h g → degree_of w.heights (class_of w (near_part w t h g)) ≤ℤ pos d → p < length ks → get_or ks p [] ≡ x → IsAfter w d t h g p
+  is-after ks p x is after most within read = record {
+    within = most;
+    place = (let e = ap length is in omega arith);
+    choice = ap (λ zs. get_or zs p []) (sym is) ∙ (read ∙ after);
+  }
 
 -- ---- the families of the choices
 
