@@ -1,4 +1,4 @@
-//! The remainders of a series are those of its coefficients, on five webs.
+//! The remainders of a full series modulo the first prime are those of its coefficients, on five webs.
 
 ghost use Rattle.std.specs.Prelude.{◌≤◌, unsigned_abs};
 

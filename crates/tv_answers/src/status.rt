@@ -8,7 +8,7 @@ ghost use Rattle.tv_answers.specs.Status.{code_of};
 pub enum Status {
     /// The report was written.
     Done,
-    /// The words are no command.
+    /// The words are no command, or ask for a class that doesn't suit the file.
     Words,
     /// The file, or the report, is refused.
     File,

@@ -1,5 +1,7 @@
 -- The reports of the tests, in degree 1 through exponent 3, under one height of 1.
 --
+-- one, none         == the class 1, and class zero
+-- unit              == the series 1
 -- tested s          == the family of class zero with 1, and the class 1 with the series s
 -- tested_integer x  == the integer x of genus 0 at the class 1
 use Rattle.std.specs.Prelude.{ℤ, pos, List, [], ◌∷◌}

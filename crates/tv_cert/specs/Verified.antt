@@ -6,6 +6,7 @@
 --                        neither names it, at every exponent through the last one
 -- IsFirstDifferenceOf f is v n x y == v and n are the first place at which they differ: the family has x there, the product y
 -- IsVerdict f is verdict == the verdict says which of both it is
+-- IsTooWideReport f is v n == the majorant of the report at v and n is beyond 2^127 - 1
 -- IsCertFault f is fault == the majorant of the report is beyond the limit at that place; want of memory needs no reason
 use Rattle.std.specs.Prelude.{◌≡◌, ⊤, ◌<◌, ℤ, ◌≤ℤ◌, List}
 use Rattle.std.specs.List.{AllByRecursion}

@@ -1,4 +1,5 @@
-//! One corner modulo 7: the numbers of plane partitions are 1, 1, 3, 6, 13, and a series has them with the sign of the exponent.
+//! One corner modulo 7: the numbers of plane partitions are 1, 1, 3, 6, 13. The series of a corner has these, a full one has them with
+//! the sign of the exponent.
 
 use crate::{corner_series, full, reduced, slices};
 use std::alloc::Global;

@@ -3,7 +3,7 @@
 ghost use Rattle.tv_top.specs.Laws.{WordsHaveLimits};
 
 /// What words may ask for: sides from 1 to 7, degrees from 0 to 24, orders from -64 to 64, with
-/// integers from 1 to 64.
+/// integers from 1 to 64. A file has at most 65,536 bytes, and a report that is checked 16,777,216.
 pub fn words_have_limits()
     ensures { WordsHaveLimits }
 {}
