@@ -1,0 +1,38 @@
+-- Running sums between the slices of neighbouring diagonals, as laws.
+--
+-- IsLow top n s     == the slice has no place from n on, and its heights are below top
+-- AreLow top n rows == each slice of the rows is so
+-- RunningSums       == where place p is replaced, the ways up to each height that it can get are the running sums of the ways up to
+--                      the heights it had, from one end of its range to the other, when the extras of the new height are paid
+-- NoneOutside       == no ways lead up to another height
+-- FirstIsSame       == where no place is replaced, h is mixed with a slice only if it has the heights of that slice
+-- LastInterlaces    == where all places are replaced, h is mixed with exactly the slices with which it interlaces
+-- LastSpends        == then what is spent are its extras
+-- LeftBegins        == where no place is replaced, at least the completion of the slice is left
+-- LeftSteps         == when a place is replaced, what is left and what is spent are together no less than what was left before
+-- LeftRises         == of the heights that are met one after the other, a later one leaves no less
+-- LeftEnds          == where all places are replaced, at most the completion of the slice is left
+use Rattle.std.specs.Prelude.{◌≡◌, ℕ, suc, ◌+◌, ◌-◌, ◌<◌, ◌≤◌, ℤ, pos, ◌+ℤ◌, ◌⊎◌, Bool, true, List}
+use Rattle.std.specs.List.{AllByRecursion}
+use Rattle.tv_lemmas.specs.Sums.{sum_of}
+use Rattle.tv_cells.specs.declared.legs.Legs.{Legs}
+use Rattle.tv_cells.specs.Cells.{below}
+use Rattle.tv_cells.specs.Extras.{AreDiagrams}
+use Rattle.tv_spec_slices.specs.Slices.{Shape, at, reach, all_below, interlaces, over, fits, extras_of, completion}
+use Rattle.tv_laws_sums.specs.Mixed.{grows, value, place, mixed, put, lowest, highest, nth}
+use Rattle.tv_laws_sums.specs.Sums.{charged, spent, left, through}
+
+pub record IsLow (top n : ℕ) (s : Shape) : Type 0 where
+  pub short : reach s ≤ n
+  pub low : (d : ℕ) → at s d < top
+
+abbrev pub AreLow : {V : Type 0} → ℕ → ℕ → List (Shape × V) → Type 0
+AreLow top n rows = AllByRecursion (λ e. IsLow top n e.0) rows
+
+abbrev pub RunningSums : Type 1
+RunningSums =
+    {V : Type 0} (legs : Legs) (k : ℕ) (t : ℤ) (top n i : ℕ) (rows : List (Shape × V)) (h : ℕ → ℕ) (j c : ℕ) → AreLow top n rows → i < n → h n ≡ 0 →
+    lowest h (place (grows t) n i) + j ≤ highest top h (place (grows t) n i) →
+    through legs k t top n (suc i) rows (put h (place (grows t) n i) (nth (grows t) (lowest h (place (grows t) n i)) (highest top h (place (grows t) n i)) j)) c
+    ≡ charged (λ e. sum_of (λ m. through legs k t top n i rows (put h (place (grows t) n i) (nth (grows t) (lowest h (place (grows t) n i)) (highest top h (place (grows t) n i)) m)) e) (below (suc j)))
+    (over legs (t +ℤ pos 1) (nth (grows t) (lowest h (place (grows t) n i)) (highest top h (place (grows t) n i)) j) (place (grows t) n i)) c
