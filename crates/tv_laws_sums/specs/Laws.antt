@@ -26,13 +26,15 @@ pub record IsLow (top n : ℕ) (s : Shape) : Type 0 where
   pub short : reach s ≤ n
   pub low : (d : ℕ) → at s d < top
 
-abbrev pub AreLow : {V : Type 0} → ℕ → ℕ → List (Shape × V) → Type 0
-AreLow top n rows = AllByRecursion (λ e. IsLow top n e.0) rows
+abbrev pub AreLow : ℕ → ℕ → List Shape → Type 0
+AreLow top n slices = AllByRecursion (IsLow top n) slices
 
-abbrev pub RunningSums : Type 1
+-- a height at the place that is replaced next, where m others are met before
+abbrev pub met : ℤ → ℕ → ℕ → ℕ → (ℕ → ℕ) → ℕ → ℕ
+met t top n i h m = nth (grows t) (lowest h (place (grows t) n i)) (highest top h (place (grows t) n i)) m
+
+abbrev pub RunningSums : Type 0
 RunningSums =
-    {V : Type 0} (legs : Legs) (k : ℕ) (t : ℤ) (top n i : ℕ) (rows : List (Shape × V)) (h : ℕ → ℕ) (j c : ℕ) → AreLow top n rows → i < n → h n ≡ 0 →
-    lowest h (place (grows t) n i) + j ≤ highest top h (place (grows t) n i) →
-    through legs k t top n (suc i) rows (put h (place (grows t) n i) (nth (grows t) (lowest h (place (grows t) n i)) (highest top h (place (grows t) n i)) j)) c
-    ≡ charged (λ e. sum_of (λ m. through legs k t top n i rows (put h (place (grows t) n i) (nth (grows t) (lowest h (place (grows t) n i)) (highest top h (place (grows t) n i)) m)) e) (below (suc j)))
-    (over legs (t +ℤ pos 1) (nth (grows t) (lowest h (place (grows t) n i)) (highest top h (place (grows t) n i)) j) (place (grows t) n i)) c
+    (legs : Legs) (k : ℕ) (t : ℤ) (top n i : ℕ) (slices : List Shape) (h : ℕ → ℕ) (j c : ℕ) → AreLow top n slices → i < n → h n ≡ 0 → lowest h (place (grows t) n i) + j ≤ highest top h (place (grows t) n i) →
+    through legs k t top n (suc i) slices (put h (place (grows t) n i) (met t top n i h j)) c
+    ≡ charged (λ e. sum_of (λ m. through legs k t top n i slices (put h (place (grows t) n i) (met t top n i h m)) e) (below (suc j))) (over legs (t +ℤ pos 1) (met t top n i h j) (place (grows t) n i)) c

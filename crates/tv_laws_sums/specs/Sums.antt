@@ -7,8 +7,8 @@
 -- least_at g h d      == the least height that the next diagonal can have at an old place d
 -- left legs t n i h   == the least number of extras that h takes from the diagonal above t on, without those that are spent
 -- kept k x            == how many costs are kept where x extras are left: those that with x are at most k
--- through legs k t top n i rows h c == the ways up to h with cost c: those of the slices of the rows with which h is mixed,
---                        when what is spent is paid
+-- through legs k t top n i slices h c == the ways up to h with cost c: those of the slices with which h is mixed, when what is
+--                        spent is paid
 use Rattle.std.specs.Prelude.{ℕ, suc, ◌+◌, ◌-◌, ℤ, pos, ◌+ℤ◌, Bool, true, false, cond, nat_le, List}
 use Rattle.tv_lemmas.specs.Sums.{sum_of}
 use Rattle.tv_partition.specs.Rows.{has}
@@ -41,5 +41,5 @@ left legs t n i h =
 abbrev pub kept : ℕ → ℕ → ℕ
 kept k x = suc k - x
 
-unfoldable pub through : {V : Type 0} → Legs → ℕ → ℤ → ℕ → ℕ → ℕ → List (Shape × V) → (ℕ → ℕ) → ℕ → ℕ
-through legs k t top n i rows h c = sum_of (λ e. cond (mixed (grows t) top n i (value top e.0) h) (charged (ways_at legs k t e.0) (spent legs t n i h) c) 0) rows
+unfoldable pub through : Legs → ℕ → ℤ → ℕ → ℕ → ℕ → List Shape → (ℕ → ℕ) → ℕ → ℕ
+through legs k t top n i slices h c = sum_of (λ a. cond (mixed (grows t) top n i (value top a) h) (charged (ways_at legs k t a) (spent legs t n i h) c) 0) slices
