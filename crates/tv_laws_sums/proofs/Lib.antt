@@ -1,1 +1,4 @@
 pub mod Replaced
+pub mod Running
+pub mod Both
+pub mod Left

@@ -12,7 +12,7 @@
 -- LeftSteps         == when a place is replaced, what is left and what is spent are together no less than what was left before
 -- LeftRises         == of the heights that are met one after the other, a later one leaves no less
 -- LeftEnds          == where all places are replaced, at most the completion of the slice is left
-use Rattle.std.specs.Prelude.{◌≡◌, ℕ, suc, ◌+◌, ◌-◌, ◌<◌, ◌≤◌, ℤ, pos, ◌+ℤ◌, ◌⊎◌, Bool, true, List}
+use Rattle.std.specs.Prelude.{◌≡◌, ℕ, suc, ◌+◌, ◌-◌, ◌<◌, ◌≤◌, ℤ, pos, ◌+ℤ◌, ◌⊎◌, Bool, true, nat_eq, List}
 use Rattle.std.specs.List.{AllByRecursion}
 use Rattle.tv_lemmas.specs.Sums.{sum_of}
 use Rattle.tv_cells.specs.declared.legs.Legs.{Legs}
@@ -38,3 +38,33 @@ RunningSums =
     (legs : Legs) (k : ℕ) (t : ℤ) (top n i : ℕ) (slices : List Shape) (h : ℕ → ℕ) (j c : ℕ) → AreLow top n slices → i < n → h n ≡ 0 → lowest h (place (grows t) n i) + j ≤ highest top h (place (grows t) n i) →
     through legs k t top n (suc i) slices (put h (place (grows t) n i) (met t top n i h j)) c
     ≡ charged (λ e. sum_of (λ m. through legs k t top n i slices (put h (place (grows t) n i) (met t top n i h m)) e) (below (suc j))) (over legs (t +ℤ pos 1) (met t top n i h j) (place (grows t) n i)) c
+
+abbrev pub NoneOutside : Type 0
+NoneOutside =
+    (legs : Legs) (k : ℕ) (t : ℤ) (top n i : ℕ) (slices : List Shape) (h : ℕ → ℕ) (y c : ℕ) → AreLow top n slices → i < n → h n ≡ 0 → (y < lowest h (place (grows t) n i)) ⊎ (highest top h (place (grows t) n i) < y) →
+    through legs k t top n (suc i) slices (put h (place (grows t) n i) y) c ≡ 0
+
+abbrev pub FirstIsSame : Type 0
+FirstIsSame = (g : Bool) (top n : ℕ) (a h : ℕ → ℕ) → mixed g top n 0 a h ≡ all_below n (λ d. nat_eq (h d) (a d))
+
+abbrev pub LastInterlaces : Type 0
+LastInterlaces = (t : ℤ) (top n : ℕ) (a b : Shape) → IsLow top n a → IsLow top n b → mixed (grows t) top n n (value top a) (value top b) ≡ interlaces t a b
+
+abbrev pub LastSpends : Type 0
+LastSpends = (legs : Legs) (t : ℤ) (top n : ℕ) (b : Shape) → AreDiagrams legs → fits legs (t +ℤ pos 1) b ≡ true → IsLow top n b → spent legs t n n (value top b) ≡ extras_of legs (t +ℤ pos 1) b
+
+abbrev pub LeftBegins : Type 0
+LeftBegins = (legs : Legs) (t : ℤ) (top n : ℕ) (a : Shape) → IsLow top n a → completion legs t a ≤ left legs t n 0 (value top a)
+
+abbrev pub LeftSteps : Type 0
+LeftSteps =
+    (legs : Legs) (t : ℤ) (top n i : ℕ) (h : ℕ → ℕ) (j : ℕ) → i < n → lowest h (place (grows t) n i) + j ≤ highest top h (place (grows t) n i) →
+    left legs t n i (put h (place (grows t) n i) (met t top n i h j)) ≤ left legs t n (suc i) (put h (place (grows t) n i) (met t top n i h j)) + over legs (t +ℤ pos 1) (met t top n i h j) (place (grows t) n i)
+
+abbrev pub LeftRises : Type 0
+LeftRises =
+    (legs : Legs) (t : ℤ) (top n i : ℕ) (h : ℕ → ℕ) (m j : ℕ) → i < n → m ≤ j →
+    left legs t n i (put h (place (grows t) n i) (met t top n i h m)) ≤ left legs t n i (put h (place (grows t) n i) (met t top n i h j))
+
+abbrev pub LeftEnds : Type 0
+LeftEnds = (legs : Legs) (t : ℤ) (top n : ℕ) (b : Shape) → AreDiagrams legs → fits legs (t +ℤ pos 1) b ≡ true → IsLow top n b → left legs t n n (value top b) ≤ completion legs (t +ℤ pos 1) b
