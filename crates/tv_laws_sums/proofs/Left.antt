@@ -49,7 +49,6 @@ left-begins legs t top n a low = rw (completion-next legs t a n low.short) (sum_
     one d = cond (is_new (grows t) n 0 d) (taken legs t d (value top a d)) (whole legs t d (least_at (grows t) (value top a) d))
 
     each : (d : ℕ) → d < n → upright legs (d + x_from (t +ℤ pos 1)) (suc (d + y_from (t +ℤ pos 1))) (at a (behind t d)) ≤ one d
-    unfolding one
     each d l = rw (none-new (grows t) n d l, least-behind t (value top a) d, whole-upright legs t d (value top a (behind t d)))
         (upright-more legs (d + x_from (t +ℤ pos 1)) (suc (d + y_from (t +ℤ pos 1))) (at a (behind t d)) (value top a (behind t d)) (value-at top n a (behind t d) low))
 
@@ -122,7 +121,6 @@ left-rises legs t top n i h m j l le = sum_of-below _ _ 0 n (λ d from far. each
 
     each : (d : ℕ) → d < n → (q : Bool) → is_new (grows t) n i d ≡ q →
         cond q (taken legs t d (at_met m d)) (whole legs t d (least_at (grows t) (at_met m) d)) ≤ cond q (taken legs t d (at_met j d)) (whole legs t d (least_at (grows t) (at_met j) d))
-    unfolding at_met
     each d inside true new = same (ap (taken legs t d) (put-else h (place (grows t) n i) (met t top n i h m) d (new-apart (grows t) n i d l new))) (ap (taken legs t d) (put-else h (place (grows t) n i) (met t top n i h j) d (new-apart (grows t) n i d l new)))
     each d inside false old = whole-more legs t d (least_at (grows t) (at_met m) d) (least_at (grows t) (at_met j) d) (least-rises (grows t) n i m j h (highest top h (place (grows t) n i)) d l le inside old)
 

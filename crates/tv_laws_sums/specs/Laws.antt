@@ -8,17 +8,20 @@
 -- FirstIsSame       == where no place is replaced, h is mixed with a slice only if it has the heights of that slice
 -- LastInterlaces    == where all places are replaced, h is mixed with exactly the slices with which it interlaces
 -- LastSpends        == then what is spent are its extras
+-- LastSums          == so the ways up to a slice are the sum of those up to the slices with which it interlaces, when its extras are paid
+-- SumsAreWays       == and where all slices that fit are summed, these are the ways up to it
 -- LeftBegins        == where no place is replaced, at least the completion of the slice is left
 -- LeftSteps         == when a place is replaced, what is left and what is spent are together no less than what was left before
 -- LeftRises         == of the heights that are met one after the other, a later one leaves no less
 -- LeftEnds          == where all places are replaced, at most the completion of the slice is left
-use Rattle.std.specs.Prelude.{◌≡◌, ℕ, suc, ◌+◌, ◌-◌, ◌<◌, ◌≤◌, ℤ, pos, ◌+ℤ◌, ◌⊎◌, Bool, true, nat_eq, List}
+use Rattle.std.specs.Prelude.{◌≡◌, ℕ, suc, ◌+◌, ◌-◌, ◌<◌, ◌≤◌, ℤ, pos, ◌+ℤ◌, ◌⊎◌, neg_ℤ, ◌≤ℤ◌, Bool, true, cond, nat_eq, List}
 use Rattle.std.specs.List.{AllByRecursion}
 use Rattle.tv_lemmas.specs.Sums.{sum_of}
 use Rattle.tv_cells.specs.declared.legs.Legs.{Legs}
 use Rattle.tv_cells.specs.Cells.{below}
-use Rattle.tv_cells.specs.Extras.{AreDiagrams}
+use Rattle.tv_cells.specs.Extras.{extent, AreDiagrams}
 use Rattle.tv_spec_slices.specs.Slices.{Shape, at, reach, all_below, interlaces, over, fits, extras_of, completion}
+use Rattle.tv_spec_slices.specs.Paths.{fitting, ways_at}
 use Rattle.tv_laws_sums.specs.Mixed.{grows, value, place, mixed, put, lowest, highest, nth}
 use Rattle.tv_laws_sums.specs.Sums.{charged, spent, left, through}
 
@@ -52,6 +55,16 @@ LastInterlaces = (t : ℤ) (top n : ℕ) (a b : Shape) → IsLow top n a → IsL
 
 abbrev pub LastSpends : Type 0
 LastSpends = (legs : Legs) (t : ℤ) (top n : ℕ) (b : Shape) → AreDiagrams legs → fits legs (t +ℤ pos 1) b ≡ true → IsLow top n b → spent legs t n n (value top b) ≡ extras_of legs (t +ℤ pos 1) b
+
+abbrev pub LastSums : Type 0
+LastSums =
+    (legs : Legs) (k : ℕ) (t : ℤ) (top n : ℕ) (slices : List Shape) (b : Shape) (c : ℕ) → AreDiagrams legs → fits legs (t +ℤ pos 1) b ≡ true → IsLow top n b → AreLow top n slices →
+    through legs k t top n n slices (value top b) c ≡ sum_of (λ a. cond (interlaces t a b) (charged (ways_at legs k t a) (extras_of legs (t +ℤ pos 1) b) c) 0) slices
+
+abbrev pub SumsAreWays : Type 0
+SumsAreWays =
+    (legs : Legs) (k : ℕ) (t : ℤ) (top n : ℕ) (b : Shape) (c : ℕ) → AreDiagrams legs → neg_ℤ (pos (k + extent legs)) ≤ℤ t → fits legs (t +ℤ pos 1) b ≡ true → IsLow top n b → AreLow top n (fitting legs t k) →
+    through legs k t top n n (fitting legs t k) (value top b) c ≡ ways_at legs k (t +ℤ pos 1) b c
 
 abbrev pub LeftBegins : Type 0
 LeftBegins = (legs : Legs) (t : ℤ) (top n : ℕ) (a : Shape) → IsLow top n a → completion legs t a ≤ left legs t n 0 (value top a)

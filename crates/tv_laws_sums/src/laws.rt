@@ -1,6 +1,6 @@
 //! Laws of running sums: each function does nothing, and its contract is a law.
 
-ghost use Rattle.tv_laws_sums.specs.Laws.{RunningSums, NoneOutside, FirstIsSame, LastInterlaces, LastSpends, LeftBegins, LeftSteps, LeftRises, LeftEnds};
+ghost use Rattle.tv_laws_sums.specs.Laws.{RunningSums, NoneOutside, FirstIsSame, LastInterlaces, LastSpends, LastSums, SumsAreWays, LeftBegins, LeftSteps, LeftRises, LeftEnds};
 
 /// Where a place is replaced, the ways up to each height that it can get are the running sums of those up to the heights it had.
 pub fn running_sums()
@@ -25,6 +25,16 @@ pub fn last_interlaces()
 /// Then what is spent are the extras.
 pub fn last_spends()
     ensures { LastSpends }
+{}
+
+/// So the ways up to a slice are those up to the slices with which it interlaces, when its extras are paid.
+pub fn last_sums()
+    ensures { LastSums }
+{}
+
+/// And where all slices that fit are summed, these are the ways up to it.
+pub fn sums_are_ways()
+    ensures { SumsAreWays }
 {}
 
 /// Where no place is replaced, at least the completion of the slice is left.
