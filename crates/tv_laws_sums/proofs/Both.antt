@@ -3,18 +3,15 @@
 -- value-covers   a column is as high as another one where its value is
 use Rattle.std.specs.Prelude.{◌≡◌, ℕ, zero, suc, ◌+◌, ◌-◌, ◌<◌, ◌≤◌, ◌⊎◌, ℤ, pos, negsuc, ◌+ℤ◌, max, Bool, true, false, cond, ◌&&◌, ◌||◌, nat_eq, nat_lt, nat_le, length}
 use Rattle.std.proofs.Common.{refl, sym, ap, ◌∙◌, arith, inl, inr}
-use Rattle.std.proofs.lemmas.Bool.{cases_lt, and_parts, and_from, lt-leb, le-leb, lt-ltb, le-ltb, leb-true}
+use Rattle.std.proofs.lemmas.Bool.{cases_lt, and_parts, and_from, lt-leb, le-leb, lt-ltb, le-ltb}
 use Rattle.std.proofs.lemmas.Bool.Decides.{nat_tests}
-use Rattle.tv_lemmas.specs.Sums.{sum_of}
 use Rattle.tv_cells.specs.declared.legs.Legs.{Legs}
-use Rattle.tv_cells.specs.Cells.{below}
 use Rattle.tv_cells.specs.Extras.{AreDiagrams}
-use Rattle.tv_spec_slices.specs.Slices.{Shape, at, reach, covers, interlaces, interlaces_at, over, fits, extras_of, is_endless, base_at}
+use Rattle.tv_spec_slices.specs.Slices.{Shape, at, reach, covers, interlaces, interlaces_at, over, fits, is_endless, base_at}
 use Rattle.tv_laws_slices.proofs.Fits.{below-at, below-from, fits-full}
 use Rattle.tv_laws_slices.proofs.Bases.{endless-first}
 use Rattle.tv_laws_slices.proofs.Steps.{at-past, sum_of-up_to}
 use Rattle.tv_laws_sums.specs.Mixed.{grows, value, before, within, is_new, mixed, mixed_at}
-use Rattle.tv_laws_sums.specs.Sums.{spent}
 use Rattle.tv_laws_sums.specs.Laws.{IsLow, FirstIsSame, LastInterlaces, LastSpends}
 use Rattle.tv_laws_sums.proofs.Replaced.{both-ways, all-same}
 use Rattle.tv_laws_sums.proofs.Running.{sum_of-each}

@@ -1,8 +1,7 @@
 -- The ways up to a slice, where all places are replaced.
-use Rattle.std.specs.Prelude.{◌≡◌, ℕ, ◌+◌, ◌-◌, ℤ, pos, ◌+ℤ◌, Bool, true, cond, nat_le, filter}
+use Rattle.std.specs.Prelude.{◌-◌, pos, ◌+ℤ◌, cond, nat_le, filter}
 use Rattle.std.proofs.Common.{sym, ap, ◌∙◌}
-use Rattle.tv_lemmas.specs.Sums.{sum_of}
-use Rattle.tv_spec_slices.specs.Slices.{Shape, interlaces, extras_of}
+use Rattle.tv_spec_slices.specs.Slices.{interlaces, extras_of}
 use Rattle.tv_spec_slices.specs.Paths.{fitting, ways_at}
 use Rattle.tv_laws_slices.proofs.Sums.{sum_of-filter}
 use Rattle.tv_laws_slices.proofs.Pushed.{sum_of-all, ways-next}

@@ -1,18 +1,17 @@
 -- What heights leave: how many extras they take at least from the diagonal above on.
 --
 -- whole-upright   the extras at a place, and those that they take above it
-use Rattle.std.specs.Prelude.{◌≡◌, ℕ, zero, suc, ◌+◌, ◌-◌, ◌<◌, ◌≤◌, ◌⊎◌, ℤ, pos, negsuc, ◌+ℤ◌, Bool, true, false, cond, nat_lt}
-use Rattle.std.proofs.Common.{refl, sym, ap, ◌∙◌, arith, inl, inr, subst}
+use Rattle.std.specs.Prelude.{◌≡◌, ℕ, suc, ◌+◌, ◌-◌, ◌<◌, ◌≤◌, ◌⊎◌, ℤ, pos, negsuc, ◌+ℤ◌, Bool, true, false, cond, nat_lt}
+use Rattle.std.proofs.Common.{refl, sym, ap, ◌∙◌, arith, inl, inr}
 use Rattle.std.proofs.lemmas.Bool.{cases_eq, cases_lt, lt-ltb}
 use Rattle.tv_lemmas.specs.Sums.{sum_of}
 use Rattle.tv_partition.specs.Rows.{has}
 use Rattle.tv_cells.specs.declared.legs.Legs.{Legs}
 use Rattle.tv_cells.specs.Cells.{below, x_from, y_from}
-use Rattle.tv_cells.specs.Extras.{AreDiagrams}
-use Rattle.tv_spec_slices.specs.Slices.{Shape, at, reach, base, over, fits, above, completion}
+use Rattle.tv_spec_slices.specs.Slices.{Shape, at, base, over, above}
 use Rattle.tv_laws_slices.proofs.Steps.{sum_of-last, sum_of-below, upright-more, upright-endless, completion-up_to, completion-next, behind}
 use Rattle.tv_laws_sums.specs.Mixed.{grows, value, place, is_new, put, lowest, highest, nth}
-use Rattle.tv_laws_sums.specs.Sums.{upright, taken, least_at, left}
+use Rattle.tv_laws_sums.specs.Sums.{upright, taken, least_at}
 use Rattle.tv_laws_sums.specs.Laws.{IsLow, met, LeftBegins, LeftSteps, LeftRises, LeftEnds}
 use Rattle.tv_laws_sums.proofs.Replaced.{place-inside, new-here, old-here, new-else, put-here, put-else}
 use Rattle.tv_laws_sums.proofs.Running.{sum_of-each, sum_of-other}

@@ -15,7 +15,7 @@ use Rattle.tv_laws_slices.proofs.Sums.{sum_of-same, sum_of-zero}
 use Rattle.tv_laws_slices.proofs.Steps.{sum_of-last, sum_of-add, at-past}
 use Rattle.tv_laws_slices.proofs.Pushed.{sum_of-all}
 use Rattle.tv_laws_slices.proofs.Listed.{exchange}
-use Rattle.tv_laws_sums.specs.Mixed.{grows, value, place, is_new, mixed, put, lowest, highest}
+use Rattle.tv_laws_sums.specs.Mixed.{grows, value, place, is_new, mixed, put}
 use Rattle.tv_laws_sums.specs.Sums.{charged, spent, through}
 use Rattle.tv_laws_sums.specs.Laws.{IsLow, met, RunningSums, NoneOutside}
 use Rattle.tv_laws_sums.proofs.Replaced.{place-inside, new-here, old-here, new-else, put-here, put-else, one-slice, one-outside}

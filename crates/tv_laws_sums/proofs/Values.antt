@@ -1,5 +1,5 @@
 -- Worked values of heights that are replaced.
-use Rattle.std.specs.Prelude.{◌≡◌, ℕ, pos, negsuc, List, [], ◌∷◌, map, true, false, refl}
+use Rattle.std.specs.Prelude.{◌≡◌, pos, negsuc, [], ◌∷◌, map, true, false, refl}
 use Rattle.tv_cells.specs.declared.legs.Legs.{Legs}
 use Rattle.tv_spec_slices.specs.Paths.{columns, shape, ways}
 use Rattle.tv_laws_sums.specs.Mixed.{grows, value, place, mixed, put}

@@ -14,7 +14,7 @@
 -- LeftSteps         == when a place is replaced, what is left and what is spent are together no less than what was left before
 -- LeftRises         == of the heights that are met one after the other, a later one leaves no less
 -- LeftEnds          == where all places are replaced, at most the completion of the slice is left
-use Rattle.std.specs.Prelude.{◌≡◌, ℕ, suc, ◌+◌, ◌-◌, ◌<◌, ◌≤◌, ℤ, pos, ◌+ℤ◌, ◌⊎◌, neg_ℤ, ◌≤ℤ◌, Bool, true, cond, nat_eq, List}
+use Rattle.std.specs.Prelude.{◌≡◌, ℕ, suc, ◌+◌, ◌<◌, ◌≤◌, ℤ, pos, ◌+ℤ◌, ◌⊎◌, neg_ℤ, ◌≤ℤ◌, Bool, true, cond, nat_eq, List}
 use Rattle.std.specs.List.{AllByRecursion}
 use Rattle.tv_lemmas.specs.Sums.{sum_of}
 use Rattle.tv_cells.specs.declared.legs.Legs.{Legs}
