@@ -1,0 +1,27 @@
+-- Tables of heights of which some places are replaced.
+--
+-- ways_in legs k t top n i slices s c == the ways up to the heights of s, of which i are replaced
+-- IsPart r legs t plan i slices done rows == each key that has a row has that of its ways; each other one that fits and is done has none
+use Rattle.std.specs.Prelude.{◌≡◌, ℕ, ◌<◌, ℤ, Bool, true, List, MatchOption}
+use Rattle.std.specs.List.{AllByRecursion}
+use Rattle.std.specs.Map.{lookup}
+use Rattle.tv_ring.specs.Operations.{Operations}
+use Rattle.tv_cells.specs.declared.legs.Legs.{Legs}
+use Rattle.tv_spec_slices.specs.Slices.{Shape, at, same_shape}
+use Rattle.tv_laws_sums.specs.Sums.{kept, through}
+use Rattle.tv_slices.specs.declared.row.Row.{Row}
+use Rattle.tv_slices.specs.Tables.{HasRow}
+use Rattle.tv_sums.specs.declared.plan.Plan.{Plan}
+use Rattle.tv_sums.specs.Plans.{left_at, are_fit}
+use Rattle.tv_sums.specs.Keys.{IsKey}
+
+abbrev pub ways_in : Legs → ℤ → Plan → ℕ → List Shape → Shape → ℕ → ℕ
+ways_in legs t plan i slices s c = through legs plan.k t plan.top plan.n i slices (at s) c
+
+abbrev pub kept_in : Legs → Plan → ℕ → Shape → ℕ
+kept_in legs plan i s = kept plan.k (left_at legs plan i (at s))
+
+pub record IsPart {A : Type 0} (r : Operations A) (legs : Legs) (t : ℤ) (plan : Plan) (i : ℕ) (slices : List Shape) (done : Shape → Bool) (rows : List (Shape × Row A)) : Type 0 where
+  pub keys : AllByRecursion (λ e. IsKey plan.top plan.n e.0) rows
+  pub each : (s : Shape) → IsKey plan.top plan.n s → are_fit legs plan i (at s) ≡ true →
+      MatchOption (lookup (same_shape s) rows) (done s ≡ true → (c : ℕ) → c < kept_in legs plan i s → ways_in legs t plan i slices s c ≡ 0) (HasRow r (ways_in legs t plan i slices s) (kept_in legs plan i s))
