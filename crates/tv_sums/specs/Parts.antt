@@ -1,6 +1,7 @@
 -- Tables of heights of which some places are replaced.
 --
 -- ways_in legs k t top n i slices s c == the ways up to the heights of s, of which i are replaced
+-- all_done s      == every key is done
 -- IsPart r legs t plan i slices done rows == each key that has a row has that of its ways; each other one that fits and is done has none
 use Rattle.std.specs.Prelude.{◌≡◌, ℕ, ◌<◌, ℤ, Bool, true, List, MatchOption}
 use Rattle.std.specs.List.{AllByRecursion}
@@ -21,7 +22,10 @@ ways_in legs t plan i slices s c = through legs plan.k t plan.top plan.n i slice
 abbrev pub kept_in : Legs → Plan → ℕ → Shape → ℕ
 kept_in legs plan i s = kept plan.k (left_at legs plan i (at s))
 
+abbrev pub all_done : Shape → Bool
+all_done s = true
+
 pub record IsPart {A : Type 0} (r : Operations A) (legs : Legs) (t : ℤ) (plan : Plan) (i : ℕ) (slices : List Shape) (done : Shape → Bool) (rows : List (Shape × Row A)) : Type 0 where
-  pub keys : AllByRecursion (λ e. IsKey plan.top plan.n e.0) rows
+  pub keys : AllByRecursion (λ e. IsKey plan.top plan.n e.0 × (are_fit legs plan i (at e.0) ≡ true)) rows
   pub each : (s : Shape) → IsKey plan.top plan.n s → are_fit legs plan i (at s) ≡ true →
       MatchOption (lookup (same_shape s) rows) (done s ≡ true → (c : ℕ) → c < kept_in legs plan i s → ways_in legs t plan i slices s c ≡ 0) (HasRow r (ways_in legs t plan i slices s) (kept_in legs plan i s))

@@ -1,6 +1,16 @@
 //! One place of given heights gets its new heights, one after the other, and the numbers are added up along them.
 
-ghost use Rattle.std.specs.Prelude.{◌≡◌};
+ghost use Rattle.std.specs.Prelude.{◌≡◌, ℕ, suc, ◌+◌, ◌<◌, ◌≤◌, ◌^◌, ℤ, List, Bool, true, ◌||◌, MatchOption, IfOk, OnOk};
+ghost use Rattle.std.specs.Map.{lookup};
+ghost use Rattle.tv_spec_slices.specs.Slices.{Shape, at, same_shape};
+ghost use Rattle.tv_laws_sums.specs.Mixed.{place, highest};
+ghost use Rattle.tv_laws_sums.specs.Sums.{charged};
+ghost use Rattle.tv_laws_sums.specs.Laws.{AreLow};
+ghost use Rattle.tv_slices.specs.Tables.{HasRow};
+ghost use Rattle.tv_sums.specs.Plans.{plan_for, IsSmall, over_at, is_fit, are_fit};
+ghost use Rattle.tv_sums.specs.Keys.{IsKey, opened};
+ghost use Rattle.tv_sums.specs.Added.{Tells};
+ghost use Rattle.tv_sums.specs.Parts.{kept_in, ways_in, all_done, IsPart};
 
 use crate::key::with_height;
 use crate::plan::{Plan, nth, place};
@@ -22,10 +32,14 @@ pub fn push_heights<C: Ring>(
     open: &Slice,
     table: &IndexMap<Slice, Row<C>>,
     next: &mut IndexMap<Slice, Row<C>>,
-) -> Result<(), RingFault> {
+) -> Result<(), RingFault>
+    requires small { IsSmall plan }
+    requires some { i < plan.n }
+    ensures { OnOk result ((t : ℤ) (slices : List Shape) (done : Shape → Bool) → plan ≡ plan_for plan.k t plan.top plan.n → AreLow plan.top plan.n slices → IsKey plan.top plan.n open.now → are_fit legs.now plan i (at open.now) ≡ true → IsPart C.ring legs.now t plan i slices all_done table.now.entries → IsPart C.ring legs.now t plan (suc i) slices done next.old.entries → IsPart C.ring legs.now t plan (suc i) slices (λ s. done s || same_shape (opened plan i s) open.now) next.new.entries) }
+{
     let p = place(plan, i);
     let low = open.at(p + 1);
-    let high = highest(plan, open, p);
+    let high = highest(plan, open, p).min(plan.top);
     let mut sum = empty_row(alloc);
     for m in 0..(high + 1).saturating_sub(low) {
         let key = with_height(alloc, open, plan.n, p, nth(plan, low, high, m))?;
@@ -35,7 +49,9 @@ pub fn push_heights<C: Ring>(
     Ok(())
 }
 
-fn highest(plan: Plan, open: &Slice, p: u32) -> u32 {
+fn highest(plan: Plan, open: &Slice, p: u32) -> u32
+    ensures { result ≡ highest plan.top (at open.now) p }
+{
     if p == 0 { plan.top } else { open.at(p - 1) }
 }
 
@@ -48,7 +64,11 @@ fn more<C: Ring>(
     sum: Row<C>,
     key: &Slice,
     table: &IndexMap<Slice, Row<C>>,
-) -> Result<Row<C>, RingFault> {
+) -> Result<Row<C>, RingFault>
+    requires small { IsSmall plan }
+    requires some { i ≤ plan.n }
+    ensures { IfOk result (λ new. (f g : ℕ → ℕ) → Tells C.ring f (kept_in legs.now plan i key.now) sum → MatchOption (lookup (same_shape key.now) table.now.entries) ((c : ℕ) → c < kept_in legs.now plan i key.now → g c ≡ 0) (HasRow C.ring g (kept_in legs.now plan i key.now)) → Tells C.ring (λ c. f c + g c) (kept_in legs.now plan i key.now) new) }
+{
     match table.get(key) {
         Some(row) => row_sum(alloc, &sum, row, 0, kept_in(legs, plan, i, key)),
         None => Ok(sum),
@@ -65,7 +85,12 @@ fn push_height<C: Ring>(
     key: Slice,
     sum: &Row<C>,
     next: &mut IndexMap<Slice, Row<C>>,
-) -> Result<(), RingFault> {
+) -> Result<(), RingFault>
+    requires small { IsSmall plan }
+    requires some { i < plan.n }
+    requires place { p < plan.n }
+    ensures { OnOk result ((t : ℤ) (slices : List Shape) (done : Shape → Bool) (f : ℕ → ℕ) (n : ℕ) → IsKey plan.top plan.n key → are_fit legs.now plan (suc i) (at key) ≡ is_fit legs.now plan p (at key p) → Tells C.ring f n sum.now → kept_in legs.now plan (suc i) key ≤ n + over_at legs.now plan p (at key p) → ((c : ℕ) → ways_in legs.now t plan (suc i) slices key c ≡ charged f (over_at legs.now plan p (at key p)) c) → IsPart C.ring legs.now t plan (suc i) slices done next.old.entries → IsPart C.ring legs.now t plan (suc i) slices (λ s. done s || same_shape key s) next.new.entries) }
+{
     let y = key.at(p);
     let cost = over_at(legs, plan, p, y);
     let least = sum.least.saturating_add(cost);
