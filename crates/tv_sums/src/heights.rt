@@ -29,30 +29,30 @@ pub fn push_heights<C: Ring>(
     legs: &Legs,
     plan: Plan,
     i: u32,
-    open: &Slice,
+    group: &Slice,
     table: &IndexMap<Slice, Row<C>>,
     next: &mut IndexMap<Slice, Row<C>>,
 ) -> Result<(), RingFault>
     requires small { IsSmall plan }
     requires some { i < plan.n }
-    ensures { OnOk result ((t : ℤ) (slices : List Shape) (done : Shape → Bool) → plan ≡ plan_for plan.k t plan.top plan.n → AreLow plan.top plan.n slices → IsKey plan.top plan.n open.now → are_fit legs.now plan i (at open.now) ≡ true → IsPart C.ring legs.now t plan i slices all_done table.now.entries → IsPart C.ring legs.now t plan (suc i) slices done next.old.entries → IsPart C.ring legs.now t plan (suc i) slices (λ s. done s || same_shape (opened plan i s) open.now) next.new.entries) }
+    ensures { OnOk result ((t : ℤ) (slices : List Shape) (done : Shape → Bool) → plan ≡ plan_for plan.k t plan.top plan.n → AreLow plan.top plan.n slices → IsKey plan.top plan.n group.now → are_fit legs.now plan i (at group.now) ≡ true → IsPart C.ring legs.now t plan i slices all_done table.now.entries → IsPart C.ring legs.now t plan (suc i) slices done next.old.entries → IsPart C.ring legs.now t plan (suc i) slices (λ s. done s || same_shape (opened plan i s) group.now) next.new.entries) }
 {
     let p = place(plan, i);
-    let low = open.at(p + 1);
-    let high = highest(plan, open, p).min(plan.top);
+    let low = group.at(p + 1);
+    let high = highest(plan, group, p).min(plan.top);
     let mut sum = empty_row(alloc);
     for m in 0..(high + 1).saturating_sub(low) {
-        let key = with_height(alloc, open, plan.n, p, nth(plan, low, high, m))?;
+        let key = with_height(alloc, group, plan.n, p, nth(plan, low, high, m))?;
         sum = more(alloc, legs, plan, i, sum, &key, table)?;
         push_height(alloc, legs, plan, i, p, key, &sum, next)?;
     }
     Ok(())
 }
 
-fn highest(plan: Plan, open: &Slice, p: u32) -> u32
-    ensures { result ≡ highest plan.top (at open.now) p }
+fn highest(plan: Plan, group: &Slice, p: u32) -> u32
+    ensures { result ≡ highest plan.top (at group.now) p }
 {
-    if p == 0 { plan.top } else { open.at(p - 1) }
+    if p == 0 { plan.top } else { group.at(p - 1) }
 }
 
 // The sum with the numbers of the old heights, if they have any.
@@ -94,7 +94,10 @@ fn push_height<C: Ring>(
     let y = key.at(p);
     let cost = over_at(legs, plan, p, y);
     let least = sum.least.saturating_add(cost);
-    if least > plan.k || !is_fit(legs, plan, p, y) {
+    if least > plan.k {
+        return Ok(());
+    }
+    if !is_fit(legs, plan, p, y) {
         return Ok(());
     }
     let len = kept_in(legs, plan, i + 1, &key);

@@ -7,6 +7,6 @@ use Rattle.tv_sums.proofs.weights.left_at.Given as goal
 
 abbrev pub invariant-loop-d : goal.invariant-loop-d
 invariant-loop-d l = record {
-  sum : l.total + sum_of (left_in l.legs l.plan l.i (at l.s)) (range_with_len l.d (l.d-end - l.d)) ≡ sum_of (left_in l.legs l.plan l.i (at l.s)) (range_with_len 0 l.d-end);
+  sum : l.total + sum_of (left_in l.legs l.plan l.i (at l.s)) (range_with_len l.d (l.plan.n - l.d)) ≡ sum_of (left_in l.legs l.plan l.i (at l.s)) (range_with_len 0 l.plan.n);
   bound : l.total ≤ 18446744073709551615 * l.d;
 }
