@@ -60,7 +60,7 @@ others n p test = all_below n (λ d. nat_eq d p || test d)
 others-at : (n p : ℕ) (test : ℕ → Bool) → others n p test ≡ true → (d : ℕ) → d < n → (d ≡ p → ⊥) → test d ≡ true
 others-at n p test all d l ne = sym (ap (λ q. q || test d) (ne_eqb d p ne)) ∙ below-at n (λ d. nat_eq d p || test d) all d l
 
-others-same : (n p : ℕ) (s t : ℕ → Bool) → ((d : ℕ) → d < n → (d ≡ p → ⊥) → s d ≡ t d) → others n p s ≡ others n p t
+pub others-same : (n p : ℕ) (s t : ℕ → Bool) → ((d : ℕ) → d < n → (d ≡ p → ⊥) → s d ≡ t d) → others n p s ≡ others n p t
 others-same n p s t each = all-same n (λ d. nat_eq d p || s d) (λ d. nat_eq d p || t d) (λ d l. elim (cases_eq d p) [
   | inl e ↦ let on = eq-eqb d p e in rw on refl
   | inr ne ↦ ap (λ q. nat_eq d p || q) (each d l ne)

@@ -57,7 +57,7 @@ nth-under : (g : Bool) (low high m : ℕ) → low + m ≤ high → nth g low hig
 nth-under true low high m l = l
 nth-under false low high m l = omega arith
 
-before-under : (top p : ℕ) (h : ℕ → ℕ) → ((d : ℕ) → h d ≤ top) → before top h p ≤ top
+pub before-under : (top p : ℕ) (h : ℕ → ℕ) → ((d : ℕ) → h d ≤ top) → before top h p ≤ top
 before-under top zero h low = omega arith
 before-under top (suc p) h low = low p
 
