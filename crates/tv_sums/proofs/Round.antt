@@ -49,11 +49,11 @@ fit-after legs plan i y h l =
 
 -- ---- one height more
 
-strip : {X : Type 0} (P : Type 0) (Q : X → Type 0) (o : Option X) → MatchOption o (true ≡ true → P) Q → MatchOption o P Q
+pub strip : {X : Type 0} (P : Type 0) (Q : X → Type 0) (o : Option X) → MatchOption o (true ≡ true → P) Q → MatchOption o P Q
 strip P Q None f = f refl
 strip P Q (Some x) q = q
 
-nth-under : (g : Bool) (low high m : ℕ) → low + m ≤ high → nth g low high m ≤ high
+pub nth-under : (g : Bool) (low high m : ℕ) → low + m ≤ high → nth g low high m ≤ high
 nth-under true low high m l = l
 nth-under false low high m l = omega arith
 

@@ -1,6 +1,11 @@
 //! One place after the other is replaced, in all heights of a table.
 
-ghost use Rattle.std.specs.Prelude.{◌≡◌};
+ghost use Rattle.std.specs.Prelude.{◌≡◌, suc, ◌<◌, ℤ, List, true, IfOk, OnOk};
+ghost use Rattle.tv_spec_slices.specs.Slices.{Shape, at};
+ghost use Rattle.tv_laws_sums.specs.Laws.{AreLow};
+ghost use Rattle.tv_sums.specs.Plans.{plan_for, IsSmall, are_fit};
+ghost use Rattle.tv_sums.specs.Keys.{IsKey, opened};
+ghost use Rattle.tv_sums.specs.Parts.{all_done, has_key, grouped, IsPart};
 
 use crate::heights::push_heights;
 use crate::key::with_height;
@@ -19,7 +24,11 @@ pub fn replaced<C: Ring>(
     plan: Plan,
     i: u32,
     table: &IndexMap<Slice, Row<C>>,
-) -> Result<IndexMap<Slice, Row<C>>, RingFault> {
+) -> Result<IndexMap<Slice, Row<C>>, RingFault>
+    requires small { IsSmall plan }
+    requires some { i < plan.n }
+    ensures { IfOk result (λ next. (t : ℤ) (slices : List Shape) → plan ≡ plan_for plan.k t plan.top plan.n → AreLow plan.top plan.n slices → IsPart C.ring legs.now t plan i slices all_done table.now.entries → IsPart C.ring legs.now t plan (suc i) slices all_done next.entries) }
+{
     let mut next = IndexMap::new(alloc);
     let mut done = IndexMap::new(alloc);
     for j in 0..table.len() {
@@ -40,12 +49,18 @@ fn push_group<C: Ring>(
     table: &IndexMap<Slice, Row<C>>,
     done: &mut IndexMap<Slice, bool>,
     next: &mut IndexMap<Slice, Row<C>>,
-) -> Result<(), RingFault> {
-    let open = with_height(alloc, heights, plan.n, place(plan, i), 0)?;
-    if done.contains_key(&open) {
+) -> Result<(), RingFault>
+    requires small { IsSmall plan }
+    requires some { i < plan.n }
+    ensures table { OnOk result ((t : ℤ) (slices : List Shape) → plan ≡ plan_for plan.k t plan.top plan.n → AreLow plan.top plan.n slices → IsKey plan.top plan.n heights.now → are_fit legs.now plan i (at heights.now) ≡ true → IsPart C.ring legs.now t plan i slices all_done table.now.entries → IsPart C.ring legs.now t plan (suc i) slices (grouped plan i done.old.entries) next.old.entries → IsPart C.ring legs.now t plan (suc i) slices (grouped plan i done.new.entries) next.new.entries) }
+    ensures found { OnOk result (grouped plan i done.new.entries heights.now ≡ true) }
+    ensures keeps { OnOk result ((q : Shape) → has_key done.old.entries q ≡ true → has_key done.new.entries q ≡ true) }
+{
+    let group = with_height(alloc, heights, plan.n, place(plan, i), 0)?;
+    if done.contains_key(&group) {
         return Ok(());
     }
-    push_heights(alloc, legs, plan, i, &open, table, next)?;
-    done.insert(open, true)?;
+    push_heights(alloc, legs, plan, i, &group, table, next)?;
+    done.insert(group, true)?;
     Ok(())
 }
