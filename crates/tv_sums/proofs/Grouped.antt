@@ -70,7 +70,7 @@ pub done-found : {V : Type 0} (old new : List (Shape × V)) (group : Shape) (v :
 done-found old new group v put = ap is_some (put group ∙ ap (λ b. cond b (Some v) (lookup (same_shape group) old)) (own-shape group))
 
 -- what holds of all keys holds of one that is found
-found-all : {V : Type 0} (P : Shape → Type 0) (q : Shape) (rows : List (Shape × V)) → AllByRecursion (λ e. P e.0) rows → has_key rows q ≡ true → P q
+pub found-all : {V : Type 0} (P : Shape → Type 0) (q : Shape) (rows : List (Shape × V)) → AllByRecursion (λ e. P e.0) rows → has_key rows q ≡ true → P q
 found-all P q [] all h = absurd (cc)
 found-all {V} P q (e ∷ rows) all h = by (same_shape q e.0) refl h (found-all P q rows all.1)
   where
