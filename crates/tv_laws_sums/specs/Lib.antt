@@ -1,0 +1,3 @@
+pub mod Mixed
+pub mod Sums
+pub mod Laws
