@@ -39,7 +39,7 @@ at-key h n none = fun_ext (λ d. at-key-one h n d none)
 pub key-past : (top n : ℕ) (s : Shape) → IsKey top n s → (d : ℕ) → n ≤ d → at s d ≡ 0
 key-past top n s is d l = let full = is.full in let long = is.length in row-past s.heights (d - s.full) (omega arith)
 
-listed-own : (f : ℕ → ℕ) (xs : List ℕ) (n : ℕ) → length xs ≡ n → ((e : ℕ) → e < n → get_or xs e 0 ≡ f e) → xs ≡ listed f n
+pub listed-own : (f : ℕ → ℕ) (xs : List ℕ) (n : ℕ) → length xs ≡ n → ((e : ℕ) → e < n → get_or xs e 0 ≡ f e) → xs ≡ listed f n
 unfolding listed
 listed-own f xs n long each = fill_by_all f xs n 0 long each
 

@@ -1,6 +1,14 @@
 //! From slices to heights before any place is replaced, and back when all are.
 
-ghost use Rattle.std.specs.Prelude.{◌≡◌};
+ghost use Rattle.std.specs.Prelude.{◌≡◌, ℕ, ◌+◌, ◌<◌, ℤ, List, [], ◌∷◌, ◌++◌, MatchOption, IfOk, OnOk};
+ghost use Rattle.std.specs.Option.{option_copied};
+ghost use Rattle.tv_spec_slices.specs.Slices.{Shape};
+ghost use Rattle.tv_spec_slices.specs.Paths.{ways_at};
+ghost use Rattle.tv_laws_sums.specs.Laws.{IsLow};
+ghost use Rattle.tv_slices.specs.Tables.{known, HasRow};
+ghost use Rattle.tv_sums.specs.Plans.{plan_for, IsSmall};
+ghost use Rattle.tv_sums.specs.Added.{Tells};
+ghost use Rattle.tv_sums.specs.Parts.{all_done, IsPart};
 
 use crate::key::{cut, key_of};
 use crate::plan::Plan;
@@ -39,15 +47,30 @@ fn push_first<C: Ring>(
     a: &Slice,
     row: &Row<C>,
     all: &mut IndexMap<Slice, Row<C>>,
-) -> Result<(), RingFault> {
+) -> Result<(), RingFault>
+    requires small { IsSmall plan }
+    ensures { OnOk result ((t : ℤ) (slices : List Shape) → plan ≡ plan_for plan.k t plan.top plan.n → IsLow plan.top plan.n a.now → HasRow C.ring (ways_at legs.now plan.k t a.now) (known legs.now plan.k t a.now) row.now → IsPart C.ring legs.now t plan 0 slices all_done all.old.entries → IsPart C.ring legs.now t plan 0 (slices ++ a.now ∷ []) all_done all.new.entries) }
+{
     let key = key_of(alloc, a, plan.top, plan.n)?;
     let len = kept_in(legs, plan, 0, &key);
-    let sum = match all.get(&key) {
-        Some(old) => row_sum(alloc, old, row, 0, len)?,
-        None => row_sum(alloc, &empty_row(alloc), row, 0, len)?,
-    };
+    let sum = with_row(alloc, all.get(&key), row, len)?;
     all.insert(key, sum)?;
     Ok(())
+}
+
+// The first numbers of both rows together.
+fn with_row<C: Ring>(
+    alloc: Global,
+    old: Option<&Row<C>>,
+    row: &Row<C>,
+    len: u32,
+) -> Result<Row<C>, RingFault>
+    ensures { IfOk result (λ new. (f g : ℕ → ℕ) → MatchOption (option_copied old.entry) ((c : ℕ) → c < len → f c ≡ 0) (HasRow C.ring f len) → Tells C.ring g len row.now → HasRow C.ring (λ c. f c + g c) len new) }
+{
+    match old {
+        Some(before) => row_sum(alloc, before, row, 0, len),
+        None => row_sum(alloc, &empty_row(alloc), row, 0, len),
+    }
 }
 
 /// The table of the slices on the diagonal t whose heights these are.
