@@ -5,7 +5,7 @@
 -- first-other  to others they are as many as before
 -- part-more    so the table of one slice more
 use Rattle.std.proofs.Common.{◌≡◌, ℕ, zero, suc, ◌+◌, ◌-◌, ◌<◌, ◌≤◌, ℤ, pos, ◌+ℤ◌, Bool, true, false, List, [], ◌∷◌, ◌++◌, get_or, Option, Some, None, refl, sym, ◌∙◌, ap, subst, arith, inl, inr}
-use Rattle.std.specs.Prelude.{cond, ◌||◌, ◌⊎◌, nat_eq, MatchOption}
+use Rattle.std.specs.Prelude.{cond, not, ◌||◌, ◌⊎◌, nat_eq, MatchOption}
 use Rattle.std.specs.List.{AllByRecursion}
 use Rattle.std.specs.Map.{lookup}
 use Rattle.std.proofs.lemmas.Bool.{cases_Bool, eqb-true, eq-eqb}
@@ -25,17 +25,19 @@ use Rattle.tv_laws_sums.specs.Sums.{charged, spent, left, kept, through}
 use Rattle.tv_laws_sums.specs.Laws.{IsLow}
 use Rattle.tv_laws_sums.proofs.Both.{first-is-same, none-new, value-past}
 use Rattle.tv_laws_sums.proofs.Left.{left-begins}
+use Rattle.tv_laws_sums.proofs.Running.{value-low}
 use Rattle.tv_laws_series.specs.Terms.{listed}
 use Rattle.tv_slices.specs.declared.row.Row.{Row}
 use Rattle.tv_slices.specs.Tables.{known, HasRow}
 use Rattle.tv_slices.proofs.Put.{row-same}
 use Rattle.tv_sums.specs.declared.plan.Plan.{Plan}
-use Rattle.tv_sums.specs.Plans.{plan_for, left_at, are_fit}
+use Rattle.tv_sums.specs.Plans.{plan_for, left_at, is_fit, are_fit}
 use Rattle.tv_sums.specs.Keys.{key, IsKey}
 use Rattle.tv_sums.specs.Added.{Tells}
 use Rattle.tv_sums.specs.Parts.{kept_in, ways_in, all_done, IsPart}
 use Rattle.tv_sums.proofs.Told.{charged-none, tells-fewer, tells-row}
 use Rattle.tv_sums.proofs.Parted.{all-put}
+use Rattle.tv_sums.proofs.Round.{strip}
 use Rattle.tv_sums.proofs.Keyed.{at-key, key-is, key-own, listed-own}
 
 spent-none : (legs : Legs) (t : ℤ) (n : ℕ) (h : ℕ → ℕ) → spent legs t n 0 h ≡ 0
@@ -82,12 +84,6 @@ first-kept legs k t top n a low = fewer (completion legs t a) (left legs t n 0 (
     fewer a b l = omega arith
 
 module _ {A : Type 0} (r : Operations A) (legs : Legs) (k : ℕ) (t : ℤ) (top n : ℕ) (slices : List Shape) (a : Shape) (low : IsLow top n a) where
-  plan : Plan
-  plan = plan_for k t top n
-
-  b : Shape
-  b = key (value top a) n
-
   at-b : at (key (value top a) n) ≡ value top a
   at-b = at-key (value top a) n (value-past top n a low)
 
@@ -111,3 +107,30 @@ module _ {A : Type 0} (r : Operations A) (legs : Legs) (k : ℕ) (t : ℤ) (top 
   pub more-tells : (row : Row A) → HasRow r (ways_at legs k t a) (known legs k t a) row → Tells r (ways_at legs k t a) (kept_in legs (plan_for k t top n) 0 (key (value top a) n)) row
   more-tells row has = tells-fewer r (ways_at legs k t a) (ways_at legs k t a) (kept_in legs (plan_for k t top n) 0 (key (value top a) n)) (known legs k t a) row
       (subst (λ h. kept k (left legs t n 0 h) ≤ known legs k t a) (sym at-b) (first-kept legs k t top n a low)) (λ c l. refl) (tells-row r (ways_at legs k t a) (known legs k t a) row has)
+
+  first-fit : (h : ℕ → ℕ) → are_fit legs (plan_for k t top n) 0 h ≡ true
+  first-fit h = below-from n (λ d. not (is_new (grows t) n 0 d) || is_fit legs (plan_for k t top n) d (h d)) (λ d l. ap (λ q. not q || is_fit legs (plan_for k t top n) d (h d)) (none-new (grows t) n d l))
+
+  pub part-more : (row : Row A) (rows new : List (Shape × Row A)) →
+      ((q : Shape) → lookup (same_shape q) new ≡ cond (same_shape (key (value top a) n) q) (Some row) (lookup (same_shape q) rows)) → new ≡ insert_entry same_shape rows (key (value top a) n) row →
+      HasRow r (ways_in legs t (plan_for k t top n) 0 (slices ++ a ∷ []) (key (value top a) n)) (kept_in legs (plan_for k t top n) 0 (key (value top a) n)) row →
+      IsPart r legs t (plan_for k t top n) 0 slices all_done rows → IsPart r legs t (plan_for k t top n) 0 (slices ++ a ∷ []) all_done new
+  part-more row rows new put entries has part = record {
+    keys = subst (AllByRecursion (λ e. IsKey top n e.0 × (are_fit legs (plan_for k t top n) 0 (at e.0) ≡ true))) (sym entries)
+        (all-put (λ s. IsKey top n s × (are_fit legs (plan_for k t top n) 0 (at s) ≡ true)) rows (key (value top a) n) row (key-is top n (value top a) (value-low top n a low), first-fit (at (key (value top a) n))) part.keys);
+    each = λ s is fit. subst (At s) (sym (put s)) (decided s is fit (same_shape (key (value top a) n) s) refl);
+  }
+    where
+      At : Shape → Option (Row A) → Type 0
+      At s o = MatchOption o (all_done s ≡ true → (c : ℕ) → c < kept_in legs (plan_for k t top n) 0 s → ways_in legs t (plan_for k t top n) 0 (slices ++ a ∷ []) s c ≡ 0) (HasRow r (ways_in legs t (plan_for k t top n) 0 (slices ++ a ∷ []) s) (kept_in legs (plan_for k t top n) 0 s))
+
+      decided : (s : Shape) → IsKey top n s → are_fit legs (plan_for k t top n) 0 (at s) ≡ true → (q : Bool) → same_shape (key (value top a) n) s ≡ q → At s (cond q (Some row) (lookup (same_shape s) rows))
+      decided s is fit true e = subst (λ s. HasRow r (ways_in legs t (plan_for k t top n) 0 (slices ++ a ∷ []) s) (kept_in legs (plan_for k t top n) 0 s) row) (same-shape (key (value top a) n) s e) has
+      decided s is fit false e = more-at s (lookup (same_shape s) rows) is e (part.each s is fit)
+
+  pub own-before : (rows : List (Shape × Row A)) → IsPart r legs t (plan_for k t top n) 0 slices all_done rows →
+      MatchOption (lookup (same_shape (key (value top a) n)) rows) ((c : ℕ) → c < kept_in legs (plan_for k t top n) 0 (key (value top a) n) → ways_in legs t (plan_for k t top n) 0 slices (key (value top a) n) c ≡ 0)
+      (HasRow r (ways_in legs t (plan_for k t top n) 0 slices (key (value top a) n)) (kept_in legs (plan_for k t top n) 0 (key (value top a) n)))
+  own-before rows part = strip ((c : ℕ) → c < kept_in legs (plan_for k t top n) 0 (key (value top a) n) → ways_in legs t (plan_for k t top n) 0 slices (key (value top a) n) c ≡ 0)
+      (HasRow r (ways_in legs t (plan_for k t top n) 0 slices (key (value top a) n)) (kept_in legs (plan_for k t top n) 0 (key (value top a) n))) (lookup (same_shape (key (value top a) n)) rows)
+      (part.each (key (value top a) n) (key-is top n (value top a) (value-low top n a low)) (first-fit (at (key (value top a) n))))

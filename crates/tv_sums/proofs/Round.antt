@@ -83,16 +83,16 @@ round r legs t plan i slices group done table old next sum new m laws inside low
     let is_b : IsKey plan.top plan.n b = key-is plan.top plan.n (put h p y) (put-low h plan.top p y is.low (under (met_in plan i h m) (highest plan.top h p) plan.top (nth-under plan.grows (lowest h p) (highest plan.top h p) m few) (before-under plan.top p h is.low))) in
     let fit_b : are_fit legs plan i (at b) ≡ true = ap (are_fit legs plan i) e ∙ (fit-before legs plan i y h inside ∙ fit) in
     let fit_after : are_fit legs plan (suc i) (at b) ≡ is_fit legs plan p (at b p) =
-        ap (are_fit legs plan (suc i)) e ∙ (fit-after legs plan i y h inside ∙ (ap (λ q. q && is_fit legs plan p y) fit ∙ ap (is_fit legs plan p) (sym here))) in
+    ap (are_fit legs plan (suc i)) e ∙ (fit-after legs plan i y h inside ∙ (ap (λ q. q && is_fit legs plan p y) fit ∙ ap (is_fit legs plan p) (sym here))) in
     let tells = subst (λ f. Tells r (sums_to legs t plan i slices h m) (kept plan.k (left_at legs plan i f)) sum) (sym e) (walk m (omega arith) few) in
     let more = summed (sums_to legs t plan i slices h m) (ways_in legs t plan i slices b) tells
-        (strip ((c : ℕ) → c < kept_in legs plan i b → ways_in legs t plan i slices b c ≡ 0) (HasRow r (ways_in legs t plan i slices b) (kept_in legs plan i b)) (lookup (same_shape b) table) (part.each b is_b fit_b)) in
+    (strip ((c : ℕ) → c < kept_in legs plan i b → ways_in legs t plan i slices b c ≡ 0) (HasRow r (ways_in legs t plan i slices b) (kept_in legs plan i b)) (lookup (same_shape b) table) (part.each b is_b fit_b)) in
     let after : IsWalk r legs t plan i slices h (suc m) new = walk-next r legs t plan i slices h laws inside m new (subst (λ f. Tells r (λ c. sums_to legs t plan i slices h m c + through legs plan.k t plan.top plan.n i slices f c) (kept plan.k (left_at legs plan i f)) new) e more) in
     let n = kept plan.k (left_at legs plan i (put h p y)) in
     let long : kept_in legs plan (suc i) b ≤ n + over_at legs plan p (at b p) = subst (λ v. kept_in legs plan (suc i) b ≤ n + over_at legs plan p v) (sym here) (subst (λ f. kept plan.k (left_at legs plan (suc i) f) ≤ n + over_at legs plan p y) (sym e) (height-long r legs t plan i slices h laws inside m few)) in
     let charge : (c : ℕ) → ways_in legs t plan (suc i) slices b c ≡ charged (sums_to legs t plan i slices h (suc m)) (over_at legs plan p (at b p)) c = λ c.
-        ap (λ f. through legs plan.k t plan.top plan.n (suc i) slices f c) e ∙ (laws.running i slices h m c low_slices inside (key-past plan.top plan.n group is plan.n (omega arith)) few
-        ∙ ap (λ v. charged (sums_to legs t plan i slices h (suc m)) (over_at legs plan p v) c) (sym here)) in
+    ap (λ f. through legs plan.k t plan.top plan.n (suc i) slices f c) e ∙ (laws.running i slices h m c low_slices inside (key-past plan.top plan.n group is plan.n (omega arith)) few
+    ∙ ap (λ v. charged (sums_to legs t plan i slices h (suc m)) (over_at legs plan p v) c) (sym here)) in
     (after, part-next r legs t plan i slices group done laws inside m next few (pushed (walked plan i group m done) (sums_to legs t plan i slices h (suc m)) n is_b fit_after (after m (omega arith) few) long charge part_old))
   where
     under : (a b c : ℕ) → a ≤ b → b ≤ c → a ≤ c

@@ -33,11 +33,7 @@ pub fn is_new(plan: Plan, i: u32, d: u32) -> bool
     requires { d + i < 2 ^ 32 }
     ensures { result ≡ is_new plan.grows plan.n i d }
 {
-    if plan.grows {
-        plan.n <= d + i
-    } else {
-        d < i
-    }
+    if plan.grows { plan.n <= d + i } else { d < i }
 }
 
 /// The height between low and high that is met after m others.

@@ -29,8 +29,20 @@ pub fn row_sum<C: Ring>(
 ) -> Result<Row<C>, RingFault>
     ensures { IfOk result (λ s. IsSum C.ring first.now second.now x len s) }
 {
-    let counts = added(alloc, first.counts.as_slice(), second.counts.as_slice(), x, len)?;
-    let reached = either(alloc, first.reached.as_slice(), second.reached.as_slice(), x, len)?;
+    let counts = added(
+        alloc,
+        first.counts.as_slice(),
+        second.counts.as_slice(),
+        x,
+        len,
+    )?;
+    let reached = either(
+        alloc,
+        first.reached.as_slice(),
+        second.reached.as_slice(),
+        x,
+        len,
+    )?;
     Ok(Row {
         least: first.least.min(second.least.saturating_add(x)),
         counts,

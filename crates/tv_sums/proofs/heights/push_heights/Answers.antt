@@ -9,9 +9,10 @@ use Rattle.tv_sums.proofs.heights.push_heights.Goals as goal
 
 pub loop-m-init : goal.loop-m-init
 loop-m-init g c = λ t slices done e low is fit part old.
-    let laws = lawful c.args.legs.now t c.args.plan e in
-    (walk-start g.C.Ring.ring c.args.legs.now t c.args.plan c.args.i slices (at c.args.group.now) laws c.requires.some c.empty_row-sum.result c.empty_row-sum.ensures.counts c.empty_row-sum.ensures.reached,
-    part-start g.C.Ring.ring c.args.legs.now t c.args.plan c.args.i slices c.args.group.now done laws c.requires.some c.args.next.now.entries old)
+    let laws = lawful c.args.legs.now t c.args.plan e in (
+      walk-start g.C.Ring.ring c.args.legs.now t c.args.plan c.args.i slices (at c.args.group.now) laws c.requires.some c.empty_row-sum.result c.empty_row-sum.ensures.counts c.empty_row-sum.ensures.reached,
+      part-start g.C.Ring.ring c.args.legs.now t c.args.plan c.args.i slices c.args.group.now done laws c.requires.some c.args.next.now.entries old,
+    )
 
 -- the bounds are those that the neighbours set
 low-is : (h : ℕ → ℕ) (p q low : ℕ) → p ≡ q → low ≡ h (p + 1) → low ≡ lowest h q
@@ -38,7 +39,7 @@ loop-m-preserved g c = λ t slices done e low is fit part old.
     let summed = subst (λ b. Summed r legs plan i b c.args.table.now.entries c.loop-m.sum c.in_ok-sum.sum) key_is c.in_ok-sum.ensures in
     let pushed : Pushed r legs t plan i slices c.place-p.result c.in_ok-key.key c.in_ok-sum.sum c.loop-m.next.entries c.push_height.new.next.entries = λ done f n. c.in_ok-push_height.ensures t slices done f n in
     let pushed_is = subst (λ b. Pushed r legs t plan i slices (spot plan i) b c.in_ok-sum.sum c.loop-m.next.entries c.push_height.new.next.entries) key_is
-        (subst (λ p. Pushed r legs t plan i slices p c.in_ok-key.key c.in_ok-sum.sum c.loop-m.next.entries c.push_height.new.next.entries) at_place pushed) in
+    (subst (λ p. Pushed r legs t plan i slices p c.in_ok-key.key c.in_ok-sum.sum c.loop-m.next.entries c.push_height.new.next.entries) at_place pushed) in
     let next : suc m ≡ m + 1 = omega arith in
     subst (λ k. IsWalk r legs t plan i slices h k c.in_ok-sum.sum × IsPart r legs t plan (suc i) slices (walked plan i c.args.group.now k done) c.push_height.new.next.entries) next
     (round r legs t plan i slices c.args.group.now done c.args.table.now.entries c.loop-m.next.entries c.push_height.new.next.entries c.loop-m.sum c.in_ok-sum.sum m laws c.requires.some low is fit part few_is summed pushed_is before.0 before.1)
