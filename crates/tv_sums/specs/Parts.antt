@@ -1,0 +1,39 @@
+-- Tables of heights of which some places are replaced.
+--
+-- ways_in legs k t top n i slices s c == the ways up to the heights of s, of which i are replaced
+-- all_done s      == every key is done
+-- has_key rows s    == the rows have s as a key
+-- grouped plan i rows s == they have it when its height at the place that is replaced after i others is 0
+-- IsPart r legs t plan i slices done rows == each key that has a row has that of its ways; each other one that fits and is done has none
+use Rattle.std.specs.Prelude.{◌≡◌, ℕ, ◌<◌, ℤ, Bool, true, List, MatchOption, is_some}
+use Rattle.std.specs.List.{AllByRecursion}
+use Rattle.std.specs.Map.{lookup}
+use Rattle.tv_ring.specs.Operations.{Operations}
+use Rattle.tv_cells.specs.declared.legs.Legs.{Legs}
+use Rattle.tv_spec_slices.specs.Slices.{Shape, at, same_shape}
+use Rattle.tv_laws_sums.specs.Sums.{kept, through}
+use Rattle.tv_slices.specs.declared.row.Row.{Row}
+use Rattle.tv_slices.specs.Tables.{HasRow}
+use Rattle.tv_sums.specs.declared.plan.Plan.{Plan}
+use Rattle.tv_sums.specs.Plans.{left_at, are_fit}
+use Rattle.tv_sums.specs.Keys.{IsKey, opened}
+
+abbrev pub ways_in : Legs → ℤ → Plan → ℕ → List Shape → Shape → ℕ → ℕ
+ways_in legs t plan i slices s c = through legs plan.k t plan.top plan.n i slices (at s) c
+
+abbrev pub kept_in : Legs → Plan → ℕ → Shape → ℕ
+kept_in legs plan i s = kept plan.k (left_at legs plan i (at s))
+
+abbrev pub all_done : Shape → Bool
+all_done s = true
+
+abbrev pub has_key : {V : Type 0} → List (Shape × V) → Shape → Bool
+has_key rows s = is_some (lookup (same_shape s) rows)
+
+abbrev pub grouped : {V : Type 0} → Plan → ℕ → List (Shape × V) → Shape → Bool
+grouped plan i rows s = has_key rows (opened plan i s)
+
+pub record IsPart {A : Type 0} (r : Operations A) (legs : Legs) (t : ℤ) (plan : Plan) (i : ℕ) (slices : List Shape) (done : Shape → Bool) (rows : List (Shape × Row A)) : Type 0 where
+  pub keys : AllByRecursion (λ e. IsKey plan.top plan.n e.0 × (are_fit legs plan i (at e.0) ≡ true)) rows
+  pub each : (s : Shape) → IsKey plan.top plan.n s → are_fit legs plan i (at s) ≡ true →
+      MatchOption (lookup (same_shape s) rows) (done s ≡ true → (c : ℕ) → c < kept_in legs plan i s → ways_in legs t plan i slices s c ≡ 0) (HasRow r (ways_in legs t plan i slices s) (kept_in legs plan i s))

@@ -1,0 +1,121 @@
+//! From slices to heights before any place is replaced, and back when all are.
+
+ghost use Rattle.std.specs.Prelude.{◌≡◌, ℕ, ◌+◌, ◌<◌, ℤ, List, [], ◌∷◌, ◌++◌, MatchOption, IfOk, OnOk};
+ghost use Rattle.std.specs.Option.{option_copied};
+ghost use Rattle.tv_spec_slices.specs.Slices.{Shape};
+ghost use Rattle.tv_spec_slices.specs.Paths.{ways_at};
+ghost use Rattle.tv_laws_sums.specs.Laws.{IsLow};
+ghost use Rattle.tv_slices.specs.Tables.{known, HasRow};
+ghost use Rattle.tv_sums.specs.Plans.{plan_for, IsSmall};
+ghost use Rattle.tv_sums.specs.Added.{Tells};
+ghost use Rattle.tv_sums.specs.Parts.{all_done, IsPart};
+
+use crate::key::{cut, key_of};
+use crate::plan::Plan;
+use crate::rows::{empty_row, row_sum};
+use crate::weights::{is_fit, kept_in};
+use indexmap::IndexMap;
+use std::alloc::Global;
+use tv_cells::legs::Legs;
+use tv_interlace::completion::extras_of;
+use tv_interlace::diagonal::full_of;
+use tv_interlace::slice::Slice;
+use tv_ring::{Ring, RingFault};
+use tv_slices::row::Row;
+use tv_slices::table::known;
+
+/// The table of the heights of the slices.
+pub fn first_heights<C: Ring>(
+    alloc: Global,
+    legs: &Legs,
+    plan: Plan,
+    table: &IndexMap<Slice, Row<C>>,
+) -> Result<IndexMap<Slice, Row<C>>, RingFault> {
+    let mut all = IndexMap::new(alloc);
+    for j in 0..table.len() {
+        if let Some((a, row)) = table.get_index(j) {
+            push_first(alloc, legs, plan, a, row, &mut all)?;
+        }
+    }
+    Ok(all)
+}
+
+fn push_first<C: Ring>(
+    alloc: Global,
+    legs: &Legs,
+    plan: Plan,
+    a: &Slice,
+    row: &Row<C>,
+    all: &mut IndexMap<Slice, Row<C>>,
+) -> Result<(), RingFault>
+    requires small { IsSmall plan }
+    ensures { OnOk result ((t : ℤ) (slices : List Shape) → plan ≡ plan_for plan.k t plan.top plan.n → IsLow plan.top plan.n a.now → HasRow C.ring (ways_at legs.now plan.k t a.now) (known legs.now plan.k t a.now) row.now → IsPart C.ring legs.now t plan 0 slices all_done all.old.entries → IsPart C.ring legs.now t plan 0 (slices ++ a.now ∷ []) all_done all.new.entries) }
+{
+    let key = key_of(alloc, a, plan.top, plan.n)?;
+    let len = kept_in(legs, plan, 0, &key);
+    let sum = with_row(alloc, all.get(&key), row, len)?;
+    all.insert(key, sum)?;
+    Ok(())
+}
+
+// The first numbers of both rows together.
+fn with_row<C: Ring>(
+    alloc: Global,
+    old: Option<&Row<C>>,
+    row: &Row<C>,
+    len: u32,
+) -> Result<Row<C>, RingFault>
+    ensures { IfOk result (λ new. (f g : ℕ → ℕ) → MatchOption (option_copied old.entry) ((c : ℕ) → c < len → f c ≡ 0) (HasRow C.ring f len) → Tells C.ring g len row.now → HasRow C.ring (λ c. f c + g c) len new) }
+{
+    match old {
+        Some(before) => row_sum(alloc, before, row, 0, len),
+        None => row_sum(alloc, &empty_row(alloc), row, 0, len),
+    }
+}
+
+/// The table of the slices on the diagonal t whose heights these are.
+pub fn last_slices<C: Ring>(
+    alloc: Global,
+    legs: &Legs,
+    plan: Plan,
+    t: i32,
+    table: &IndexMap<Slice, Row<C>>,
+) -> Result<IndexMap<Slice, Row<C>>, RingFault> {
+    let mut all = IndexMap::new(alloc);
+    for j in 0..table.len() {
+        if let Some((heights, row)) = table.get_index(j) {
+            if is_slice(legs, plan, heights) {
+                push_last(alloc, legs, plan, t, heights, row, &mut all)?;
+            }
+        }
+    }
+    Ok(all)
+}
+
+fn push_last<C: Ring>(
+    alloc: Global,
+    legs: &Legs,
+    plan: Plan,
+    t: i32,
+    heights: &Slice,
+    row: &Row<C>,
+    all: &mut IndexMap<Slice, Row<C>>,
+) -> Result<(), RingFault> {
+    let b = cut(alloc, heights, full_of(legs, t), plan.n)?;
+    if extras_of(&b, legs, t) > u64::from(plan.k) {
+        return Ok(());
+    }
+    let sum = row_sum(alloc, &empty_row(alloc), row, 0, known(&b, legs, plan.k, t))?;
+    all.insert(b, sum)?;
+    Ok(())
+}
+
+// Whether the heights are those of a slice that fits the legs.
+fn is_slice(legs: &Legs, plan: Plan, s: &Slice) -> bool {
+    for d in 0..plan.n.max(legs.extent()) {
+        if !(s.at(d + 1) <= s.at(d) && is_fit(legs, plan, d, s.at(d))) {
+            return false;
+        }
+    }
+    true
+}
