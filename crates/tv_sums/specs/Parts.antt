@@ -4,14 +4,18 @@
 -- all_done s      == every key is done
 -- has_key rows s    == the rows have s as a key
 -- grouped plan i rows s == they have it when its height at the place that is replaced after i others is 0
+-- summed legs k t slices s c == what comes to s, which fits the legs above the diagonal t, from those of the slices with which it
+--                    interlaces, when its extras are paid
 -- IsPart r legs t plan i slices done rows == each key that has a row has that of its ways; each other one that fits and is done has none
-use Rattle.std.specs.Prelude.{◌≡◌, ℕ, ◌<◌, ℤ, Bool, true, List, MatchOption, is_some}
+use Rattle.std.specs.Prelude.{◌≡◌, ℕ, ◌<◌, ℤ, pos, ◌+ℤ◌, Bool, true, cond, List, MatchOption, is_some}
 use Rattle.std.specs.List.{AllByRecursion}
 use Rattle.std.specs.Map.{lookup}
+use Rattle.tv_lemmas.specs.Sums.{sum_of}
 use Rattle.tv_ring.specs.Operations.{Operations}
 use Rattle.tv_cells.specs.declared.legs.Legs.{Legs}
-use Rattle.tv_spec_slices.specs.Slices.{Shape, at, same_shape}
-use Rattle.tv_laws_sums.specs.Sums.{kept, through}
+use Rattle.tv_spec_slices.specs.Slices.{Shape, at, same_shape, interlaces, fits, extras_of}
+use Rattle.tv_spec_slices.specs.Paths.{ways_at}
+use Rattle.tv_laws_sums.specs.Sums.{charged, kept, through}
 use Rattle.tv_slices.specs.declared.row.Row.{Row}
 use Rattle.tv_slices.specs.Tables.{HasRow}
 use Rattle.tv_sums.specs.declared.plan.Plan.{Plan}
@@ -20,6 +24,10 @@ use Rattle.tv_sums.specs.Keys.{IsKey, opened}
 
 abbrev pub ways_in : Legs → ℤ → Plan → ℕ → List Shape → Shape → ℕ → ℕ
 ways_in legs t plan i slices s c = through legs plan.k t plan.top plan.n i slices (at s) c
+
+abbrev pub summed : Legs → ℕ → ℤ → List Shape → Shape → ℕ → ℕ
+summed legs k t slices s c =
+    cond (fits legs (t +ℤ pos 1) s) (sum_of (λ a. cond (interlaces t a s) (charged (ways_at legs k t a) (extras_of legs (t +ℤ pos 1) s) c) 0) slices) 0
 
 abbrev pub kept_in : Legs → Plan → ℕ → Shape → ℕ
 kept_in legs plan i s = kept plan.k (left_at legs plan i (at s))

@@ -1,14 +1,17 @@
 //! From slices to heights before any place is replaced, and back when all are.
 
-ghost use Rattle.std.specs.Prelude.{◌≡◌, ℕ, ◌+◌, ◌<◌, ℤ, List, [], ◌∷◌, ◌++◌, MatchOption, IfOk, OnOk};
+ghost use Rattle.std.specs.Prelude.{◌≡◌, ℕ, suc, ◌+◌, ◌<◌, ◌≤◌, ◌^◌, ℤ, pos, ◌+ℤ◌, unsigned_abs, List, [], ◌∷◌, ◌++◌, MatchOption, IfOk, OnOk};
+ghost use Rattle.std.specs.List.{AllByRecursion};
+ghost use Rattle.std.specs.Map.{keys_of};
 ghost use Rattle.std.specs.Option.{option_copied};
-ghost use Rattle.tv_spec_slices.specs.Slices.{Shape};
+ghost use Rattle.tv_cells.specs.Extras.{extent, AreDiagrams};
+ghost use Rattle.tv_spec_slices.specs.Slices.{Shape, at, reach};
 ghost use Rattle.tv_spec_slices.specs.Paths.{ways_at};
-ghost use Rattle.tv_laws_sums.specs.Laws.{IsLow};
-ghost use Rattle.tv_slices.specs.Tables.{known, HasRow};
-ghost use Rattle.tv_sums.specs.Plans.{plan_for, IsSmall};
+ghost use Rattle.tv_laws_sums.specs.Laws.{IsLow, AreLow};
+ghost use Rattle.tv_slices.specs.Tables.{known, ways_to, HasRow, IsTable};
+ghost use Rattle.tv_sums.specs.Plans.{plan_for, IsSmall, is_slice};
 ghost use Rattle.tv_sums.specs.Added.{Tells};
-ghost use Rattle.tv_sums.specs.Parts.{all_done, IsPart};
+ghost use Rattle.tv_sums.specs.Parts.{all_done, summed, IsPart};
 
 use crate::key::{cut, key_of};
 use crate::plan::Plan;
@@ -30,7 +33,10 @@ pub fn first_heights<C: Ring>(
     legs: &Legs,
     plan: Plan,
     table: &IndexMap<Slice, Row<C>>,
-) -> Result<IndexMap<Slice, Row<C>>, RingFault> {
+) -> Result<IndexMap<Slice, Row<C>>, RingFault>
+    requires small { IsSmall plan }
+    ensures { IfOk result (λ all. (t : ℤ) → plan ≡ plan_for plan.k t plan.top plan.n → IsTable C.ring legs.now plan.k t (ways_to legs.now plan.k t) table.now.entries → AreLow plan.top plan.n (keys_of table.now.entries) → IsPart C.ring legs.now t plan 0 (keys_of table.now.entries) all_done all.entries) }
+{
     let mut all = IndexMap::new(alloc);
     for j in 0..table.len() {
         if let Some((a, row)) = table.get_index(j) {
@@ -80,7 +86,11 @@ pub fn last_slices<C: Ring>(
     plan: Plan,
     t: i32,
     table: &IndexMap<Slice, Row<C>>,
-) -> Result<IndexMap<Slice, Row<C>>, RingFault> {
+) -> Result<IndexMap<Slice, Row<C>>, RingFault>
+    requires small { IsSmall plan }
+    requires diagonal { unsigned_abs t ≤ 2 ^ 30 }
+    ensures { IfOk result (λ all. (old : ℤ) (slices : List Shape) → AreDiagrams legs.now → t ≡ old +ℤ pos 1 → plan ≡ plan_for plan.k old plan.top plan.n → plan.top ≡ suc (plan.k + extent legs.now) → AreLow plan.top plan.n slices → AllByRecursion (λ a. reach a < plan.n) slices → IsPart C.ring legs.now old plan plan.n slices all_done table.now.entries → IsTable C.ring legs.now plan.k t (summed legs.now plan.k old slices) all.entries) }
+{
     let mut all = IndexMap::new(alloc);
     for j in 0..table.len() {
         if let Some((heights, row)) = table.get_index(j) {
@@ -111,7 +121,10 @@ fn push_last<C: Ring>(
 }
 
 // Whether the heights are those of a slice that fits the legs.
-fn is_slice(legs: &Legs, plan: Plan, s: &Slice) -> bool {
+fn is_slice(legs: &Legs, plan: Plan, s: &Slice) -> bool
+    requires small { IsSmall plan }
+    ensures { result ≡ is_slice legs.now plan (at s.now) }
+{
     for d in 0..plan.n.max(legs.extent()) {
         if !(s.at(d + 1) <= s.at(d) && is_fit(legs, plan, d, s.at(d))) {
             return false;

@@ -1,6 +1,11 @@
 //! The table of the next diagonal.
 
-ghost use Rattle.std.specs.Prelude.{◌≡◌};
+ghost use Rattle.std.specs.Prelude.{◌≡◌, ℕ, ◌+◌, ◌*◌, ◌<◌, ◌≤◌, ◌^◌, pos, neg_ℤ, ◌+ℤ◌, ◌≤ℤ◌, ◌<ℤ◌, unsigned_abs, IfOk, IsErrOf};
+ghost use Rattle.std.specs.List.{AllByRecursion};
+ghost use Rattle.tv_ring.specs.Operations.{limit};
+ghost use Rattle.tv_cells.specs.Extras.{extent, count};
+ghost use Rattle.tv_spec_slices.specs.Slices.{reach};
+ghost use Rattle.tv_slices.specs.Tables.{ways_to, IsTable};
 
 use crate::last::{first_heights, last_slices};
 use crate::places::replaced;
@@ -21,7 +26,15 @@ pub fn next_table_by_sums<C: Ring>(
     k: u32,
     t: i32,
     table: &IndexMap<Slice, Row<C>>,
-) -> Result<IndexMap<Slice, Row<C>>, RingFault> {
+) -> Result<IndexMap<Slice, Row<C>>, RingFault>
+    requires diagonal { unsigned_abs t < 2 ^ 30 }
+    requires few { k < 2 ^ 29 }
+    requires low { neg_ℤ (pos (k + extent legs.now)) ≤ℤ t }
+    requires high { t <ℤ pos (k + extent legs.now) }
+    requires table { IsTable C.ring legs.now k t (ways_to legs.now k t) table.now.entries }
+    ensures value { IfOk result (λ next. IsTable C.ring legs.now k (t +ℤ pos 1) (ways_to legs.now k (t +ℤ pos 1)) next.entries) }
+    ensures wide { IsErrOf result RingFault.Wide → (i : ℕ) × (i ≤ k) × (limit < count legs.now i * C.ring.size C.ring.unit) }
+{
     match by_sums(alloc, legs, k, t, table) {
         Err(RingFault::Wide) => next_table(alloc, legs, k, t, table),
         other => other,
@@ -34,7 +47,15 @@ fn by_sums<C: Ring>(
     k: u32,
     t: i32,
     table: &IndexMap<Slice, Row<C>>,
-) -> Result<IndexMap<Slice, Row<C>>, RingFault> {
+) -> Result<IndexMap<Slice, Row<C>>, RingFault>
+    requires diagonal { unsigned_abs t < 2 ^ 30 }
+    requires few { k < 2 ^ 29 }
+    requires low { neg_ℤ (pos (k + extent legs.now)) ≤ℤ t }
+    requires high { t <ℤ pos (k + extent legs.now) }
+    requires table { IsTable C.ring legs.now k t (ways_to legs.now k t) table.now.entries }
+    ensures value { IfOk result (λ next. IsTable C.ring legs.now k (t +ℤ pos 1) (ways_to legs.now k (t +ℤ pos 1)) next.entries) }
+{
+    legs.known();
     let plan = Plan {
         k,
         grows: t < 0,
@@ -51,7 +72,11 @@ fn by_sums<C: Ring>(
 }
 
 // The most places that a slice of the table has.
-fn longest<C>(table: &IndexMap<Slice, Row<C>>) -> u32 {
+fn longest<C>(table: &IndexMap<Slice, Row<C>>) -> u32
+    ensures bound { result < 2 ^ 31 }
+    ensures each { AllByRecursion (λ e. reach e.0 ≤ result) table.now.entries }
+    ensures least { (m : ℕ) → AllByRecursion (λ e. reach e.0 ≤ m) table.now.entries → result ≤ m }
+{
     let mut most = 0;
     for j in 0..table.len() {
         if let Some((a, _row)) = table.get_index(j) {
