@@ -1,11 +1,10 @@
-//! The numbers of sets of extras, read off the last diagonal's table: a path ends with the slice of the legs alone.
+//! The table of the first diagonal, in which a path begins with the slice of the legs alone, and how a row is read.
 
-ghost use Rattle.std.specs.Prelude.{◌≡◌, ℕ, suc, ◌+◌, ◌*◌, ◌<◌, ◌≤◌, ◌^◌, pos, ◌-ℤ◌, neg_ℤ, IfOk, IsErrOf, IsOkUnless};
+ghost use Rattle.std.specs.Prelude.{◌≡◌, ◌+◌, ◌<◌, ◌^◌, pos, ◌-ℤ◌, IfOk, IsOkUnless};
 ghost use Rattle.std.specs.Option.{option_copied};
-ghost use Rattle.tv_ring.specs.Operations.{limit};
 ghost use Rattle.tv_laws_series.specs.Terms.{listed};
 ghost use Rattle.tv_ring.specs.Sums.{at, times};
-ghost use Rattle.tv_cells.specs.Extras.{extent, count};
+ghost use Rattle.tv_cells.specs.Extras.{extent};
 ghost use Rattle.tv_slices.specs.Rows.{numbers, marks};
 ghost use Rattle.tv_slices.specs.Joined.{counts_of};
 ghost use Rattle.tv_slices.specs.Bare.{at_start};
@@ -13,48 +12,12 @@ ghost use Rattle.tv_slices.specs.Tables.{ways_to, IsTable};
 
 use crate::bare::bare_slice;
 use crate::row::{Row, copy_at};
-use crate::table::{known, next_table};
+use crate::table::known;
 use indexmap::IndexMap;
 use std::alloc::{AllocError, Global};
 use tv_cells::legs::Legs;
 use tv_interlace::slice::Slice;
 use tv_ring::{Ring, RingFault};
-
-/// The numbers of sets of 0, 1, .., k extras beside the legs, times one.
-pub fn slice_counts<C: Ring>(alloc: Global, legs: &Legs, k: u32) -> Result<Vec<C>, RingFault>
-    requires { k < 2 ^ 29 }
-    ensures value { IfOk result (λ v. v.items ≡ numbers C.ring (count legs.now) (suc k)) }
-
-    // Wide only where one of these numbers, times the size of one, exceeds the limit.
-    ensures wide { IsErrOf result RingFault.Wide → (i : ℕ) × (i ≤ k) × (limit < count legs.now i * C.ring.size C.ring.unit) }
-{
-    legs.known();
-    let far = k + legs.extent();
-    let table = last_table(alloc, legs, k, far)?;
-    let last = bare_slice(alloc, legs, diagonal_at(2 * far, far))?;
-    row_of(alloc, table.get(&last), k + 1)
-}
-
-/// The table of the last diagonal.
-fn last_table<C: Ring>(
-    alloc: Global,
-    legs: &Legs,
-    k: u32,
-    far: u32,
-) -> Result<IndexMap<Slice, Row<C>>, RingFault>
-    requires few { k < 2 ^ 29 }
-    requires far { far ≡ k + extent legs.now }
-    ensures value { IfOk result (λ table. IsTable C.ring legs.now k (pos (2 * far) -ℤ pos far) (ways_to legs.now k (pos (2 * far) -ℤ pos far)) table.entries) }
-    ensures wide { IsErrOf result RingFault.Wide → (i : ℕ) × (i ≤ k) × (limit < count legs.now i * C.ring.size C.ring.unit) }
-{
-    legs.known();
-    let _ = legs.extent();
-    let mut table = first_table(alloc, legs, k, far)?;
-    for i in 0..2 * far {
-        table = next_table(alloc, legs, k, diagonal_at(i, far), &table)?;
-    }
-    Ok(table)
-}
 
 /// The table of the first diagonal: the legs alone, in one way.
 pub fn first_table<C: Ring>(
@@ -127,8 +90,8 @@ fn start_at<C: Ring>(alloc: Global, e: u32) -> Result<C, RingFault>
     }
 }
 
-/// The numbers of a row, zero where there is none.
-fn row_of<C: Ring>(alloc: Global, row: Option<&Row<C>>, len: u32) -> Result<Vec<C>, RingFault>
+/// The numbers of a row for the first `len` costs, zero where there is none.
+pub fn row_of<C: Ring>(alloc: Global, row: Option<&Row<C>>, len: u32) -> Result<Vec<C>, RingFault>
     ensures value { IfOk result (λ v. v.items ≡ listed (at C.ring (counts_of (option_copied row.entry))) len) }
     ensures never_wide { IsOkUnless result RingFault.Memory }
 {

@@ -1,5 +1,5 @@
-//! The sets of extras of a corner, counted by slices: a table of the slices of a diagonal, each with the ways up to it by
-//! their cost, pushed from one diagonal to the next. It lists no boxes.
+//! Tables of the slices of a diagonal, each with the ways up to it by their cost, pushed from one diagonal to the next, slice by
+//! slice. It lists no boxes.
 #![tactic(auto)]
 
 pub mod bare;
@@ -8,5 +8,3 @@ pub mod row;
 pub mod table;
 #[cfg(test)]
 mod tests;
-
-pub use counts::slice_counts;

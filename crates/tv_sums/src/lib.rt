@@ -2,6 +2,7 @@
 //! its new height, and the numbers are added up along the heights. The numbers are those of the listing of neighbours.
 #![tactic(auto)]
 
+mod counts;
 mod heights;
 mod key;
 mod last;
@@ -13,4 +14,5 @@ pub mod table;
 mod tests;
 mod weights;
 
+pub use counts::slice_counts;
 pub use table::next_table_by_sums;

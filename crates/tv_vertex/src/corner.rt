@@ -9,7 +9,7 @@ use std::alloc::Global;
 use tv_cells::legs::Legs;
 use tv_laurent::Series;
 use tv_ring::{Ring, RingFault};
-use tv_slices::slice_counts;
+use tv_sums::slice_counts;
 
 /// The series from exponent 0, known through `k`: the coefficient at i is the number of sets of i boxes beside the legs,
 /// times one (Okounkov, Reshetikhin and Vafa: the topological vertex as a count of boxes, without its sign).

@@ -9,7 +9,7 @@ use Rattle.tv_slices.specs.Joined.{counts_of}
 use Rattle.tv_slices.specs.Bare.{bare}
 use Rattle.tv_slices.specs.Tables.{ways_to, IsTable}
 use Rattle.tv_slices.proofs.Ends.{read-last}
-use Rattle.tv_slices.proofs.counts.slice_counts.Goals as goal
+use Rattle.tv_sums.proofs.counts.slice_counts.Goals as goal
 use Rattle.tv_spec_slices.specs.Slices.{same_shape}
 
 pub returns-clause-value : goal.returns-clause-value
