@@ -1,6 +1,6 @@
 //! From slices to heights before any place is replaced, and back when all are.
 
-ghost use Rattle.std.specs.Prelude.{◌≡◌, ℕ, suc, ◌+◌, ◌<◌, ◌≤◌, ◌^◌, ℤ, pos, ◌+ℤ◌, unsigned_abs, List, [], ◌∷◌, ◌++◌, MatchOption, IfOk, OnOk};
+ghost use Rattle.std.specs.Prelude.{◌≡◌, ℕ, suc, ◌+◌, ◌<◌, ◌≤◌, ◌^◌, ℤ, pos, ◌+ℤ◌, unsigned_abs, List, [], ◌∷◌, ◌++◌, MatchOption, IfOk, OnOk, ◌&&◌, nat_le};
 ghost use Rattle.std.specs.List.{AllByRecursion};
 ghost use Rattle.std.specs.Map.{keys_of};
 ghost use Rattle.std.specs.Option.{option_copied};
@@ -9,7 +9,7 @@ ghost use Rattle.tv_spec_slices.specs.Slices.{Shape, at, reach};
 ghost use Rattle.tv_spec_slices.specs.Paths.{ways_at};
 ghost use Rattle.tv_laws_sums.specs.Laws.{IsLow, AreLow};
 ghost use Rattle.tv_slices.specs.Tables.{known, ways_to, HasRow, IsTable};
-ghost use Rattle.tv_sums.specs.Plans.{plan_for, IsSmall, is_slice};
+ghost use Rattle.tv_sums.specs.Plans.{plan_for, IsSmall, is_fit, is_slice};
 ghost use Rattle.tv_sums.specs.Added.{Tells};
 ghost use Rattle.tv_sums.specs.Parts.{all_done, summed, IsPart};
 
@@ -126,9 +126,18 @@ fn is_slice(legs: &Legs, plan: Plan, s: &Slice) -> bool
     ensures { result ≡ is_slice legs.now plan (at s.now) }
 {
     for d in 0..plan.n.max(legs.extent()) {
-        if !(s.at(d + 1) <= s.at(d) && is_fit(legs, plan, d, s.at(d))) {
+        if !is_slice_at(legs, plan, s, d) {
             return false;
         }
     }
     true
+}
+
+// Whether the height at place d is no lower than the next one, and can stand there.
+fn is_slice_at(legs: &Legs, plan: Plan, s: &Slice, d: u32) -> bool
+    requires small { IsSmall plan }
+    requires place { d < 2 ^ 30 }
+    ensures { result ≡ (nat_le (at s.now (suc d)) (at s.now d) && is_fit legs.now plan d (at s.now d)) }
+{
+    s.at(d + 1) <= s.at(d) && is_fit(legs, plan, d, s.at(d))
 }
