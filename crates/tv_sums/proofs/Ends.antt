@@ -71,10 +71,10 @@ inside_second n e d l = omega arith
 -- ---- from heights to the slice
 
 module _ (legs : Legs) (k : ℕ) (t : ℤ) (top n : ℕ) (s : Shape) (are : AreDiagrams legs) (some : 0 < top) (is : IsKey top n s) (test : is_slice legs (plan_for k t top n) (at s) ≡ true) where
-  u : ℤ
+  abbrev u : ℤ
   u = t +ℤ pos 1
 
-  f : ℕ
+  abbrev f : ℕ
   f = full_of legs u (extent legs)
 
   parts : (d : ℕ) → d < max n (extent legs) → (nat_le (at s (suc d)) (at s d) ≡ true) × (is_fit legs (plan_for k t top n) d (at s d) ≡ true)
@@ -134,15 +134,15 @@ module _ (legs : Legs) (k : ℕ) (t : ℤ) (top n : ℕ) (s : Shape) (are : AreD
   ]
 
   pub slice-of-heights : (fits legs (t +ℤ pos 1) (ending legs t n s) ≡ true) × ((reach (ending legs t n s) ≤ n) × (key (value top (ending legs t n s)) n ≡ s))
-  slice-of-heights = (ending-fits, ending-short, ap (λ g. key g n) (fun_ext value-ending) ∙ sym (key-own top n s is))
+  slice-of-heights = (ending-fits, (ending-short, ap (λ g. key g n) (fun_ext value-ending) ∙ sym (key-own top n s is)))
 
 -- ---- from a slice to its heights
 
 module _ (legs : Legs) (k : ℕ) (t : ℤ) (top n : ℕ) (b : Shape) (are : AreDiagrams legs) (suits : fits legs (t +ℤ pos 1) b ≡ true) (low : IsLow top n b) where
-  w : ℤ
+  abbrev w : ℤ
   w = t +ℤ pos 1
 
-  v : ℕ → ℕ
+  abbrev v : ℕ → ℕ
   v = value top b
 
   ends : (d : ℕ) → is_endless legs w d ≡ nat_lt d b.full

@@ -72,7 +72,7 @@ short-beside (negsuc m) a b n f h l = elim (cases_lt n (reach b)) [
     inside x y p l = omega arith
 
 module _ (legs : Legs) (k : ℕ) (t : ℤ) (top n : ℕ) (slices : List Shape) (are : AreDiagrams legs) (highest : top ≡ suc (k + extent legs)) where
-  u : ℤ
+  abbrev u : ℤ
   u = t +ℤ pos 1
 
   pub few-low : (s : Shape) → fits legs u s ≡ true → extras_of legs u s ≤ k → reach s ≤ n → IsLow top n s
