@@ -38,6 +38,7 @@ pub fn first_heights<C: Ring>(
     requires small { IsSmall plan }
     ensures { IfOk result (λ all. (t : ℤ) → plan ≡ plan_for plan.k t plan.top plan.n → IsTable C.ring legs.now plan.k t (ways_to legs.now plan.k t) table.now.entries → AreLow plan.top plan.n (keys_of table.now.entries) → IsPart C.ring legs.now t plan 0 (keys_of table.now.entries) all_done all.entries) }
 {
+    legs.known();
     let mut all = IndexMap::new(alloc);
     for j in 0..table.len() {
         if let Some((a, row)) = table.get_index(j) {
