@@ -56,6 +56,7 @@ fn by_sums<C: Ring>(
     ensures value { IfOk result (λ next. IsTable C.ring legs.now k (t +ℤ pos 1) (ways_to legs.now k (t +ℤ pos 1)) next.entries) }
 {
     legs.known();
+    let _ = table.len();
     let plan = Plan {
         k,
         grows: t < 0,
