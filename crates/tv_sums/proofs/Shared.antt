@@ -2,6 +2,7 @@
 --
 -- summed-shares   what comes to a slice, as it is pushed from each slice of the table
 -- summed-table    so their table is that of the ways
+-- plan-own        the plan of a table by its own numbers
 -- rows-few        the slices of a table have no more places and no greater heights than their extras let them
 use Rattle.std.proofs.Common.{◌≡◌, ℕ, suc, ◌+◌, ◌-◌, ◌<◌, ◌≤◌, ℤ, pos, neg_ℤ, ◌+ℤ◌, ◌≤ℤ◌, Bool, true, false, List, [], ◌∷◌, refl, sym, ◌∙◌, ap, arith}
 use Rattle.std.specs.Prelude.{cond}
@@ -21,6 +22,8 @@ use Rattle.tv_slices.specs.declared.row.Row.{Row}
 use Rattle.tv_slices.specs.Tables.{known, ways_to, IsTable}
 use Rattle.tv_slices.proofs.Levels.{share, shares, shares-all}
 use Rattle.tv_slices.proofs.Put.{table-same}
+use Rattle.tv_sums.specs.declared.plan.Plan.{Plan}
+use Rattle.tv_sums.specs.Plans.{plan_for}
 use Rattle.tv_sums.specs.Parts.{summed}
 
 keys-sum : {V : Type 0} (F : Shape → ℕ) (es : List (Shape × V)) → sum_of F (keys_of es) ≡ sum_of (λ e. F e.0) es
@@ -67,3 +70,8 @@ module _ {V : Type 0} (legs : Legs) (k : ℕ) (t : ℤ) (are : AreDiagrams legs)
     where
       next : (a : ℕ) → a ≤ m → a < suc m
       next a l = omega arith
+
+-- ---- the plan of a table
+
+pub plan-own : (plan : Plan) (k : ℕ) (t : ℤ) (top : ℕ) → plan ≡ plan_for k t top plan.n → plan ≡ plan_for plan.k t plan.top plan.n
+plan-own plan k t top e = e ∙ (ap (λ v. plan_for v t top plan.n) (sym (ap (λ p. p.k) e)) ∙ ap (λ v. plan_for plan.k t v plan.n) (sym (ap (λ p. p.top) e)))
