@@ -4,10 +4,12 @@
 -- first-own    to its own heights they are as many more as lead up to it
 -- first-other  to others they are as many as before
 -- part-more    so the table of one slice more
+-- part-none    the table of none
+-- key-got, keys-next  the slices of a table, one by one
 use Rattle.std.proofs.Common.{◌≡◌, ℕ, zero, suc, ◌+◌, ◌-◌, ◌<◌, ◌≤◌, ℤ, pos, ◌+ℤ◌, Bool, true, false, List, [], ◌∷◌, ◌++◌, get_or, Option, Some, None, refl, sym, ◌∙◌, ap, subst, arith, inl, inr}
-use Rattle.std.specs.Prelude.{cond, not, ◌||◌, ◌⊎◌, nat_eq, MatchOption}
+use Rattle.std.specs.Prelude.{cond, not, ◌||◌, ◌⊎◌, nat_eq, MatchOption, slice_get}
 use Rattle.std.specs.List.{AllByRecursion}
-use Rattle.std.specs.Map.{lookup}
+use Rattle.std.specs.Map.{lookup, keys_of}
 use Rattle.std.proofs.lemmas.Bool.{cases_Bool, eqb-true, eq-eqb}
 use Rattle.indexmap.specs.IndexMap.{insert_entry}
 use Rattle.tv_lemmas.specs.Sums.{sum_of}
@@ -134,3 +136,16 @@ module _ {A : Type 0} (r : Operations A) (legs : Legs) (k : ℕ) (t : ℤ) (top 
   own-before rows part = strip ((c : ℕ) → c < kept_in legs (plan_for k t top n) 0 (key (value top a) n) → ways_in legs t (plan_for k t top n) 0 slices (key (value top a) n) c ≡ 0)
       (HasRow r (ways_in legs t (plan_for k t top n) 0 slices (key (value top a) n)) (kept_in legs (plan_for k t top n) 0 (key (value top a) n))) (lookup (same_shape (key (value top a) n)) rows)
       (part.each (key (value top a) n) (key-is top n (value top a) (value-low top n a low)) (first-fit (at (key (value top a) n))))
+
+pub part-none : {A : Type 0} (r : Operations A) (legs : Legs) (t : ℤ) (plan : Plan) (rows : List (Shape × Row A)) → rows ≡ [] → IsPart r legs t plan 0 [] all_done rows
+unfolding through
+part-none r legs t plan rows e = subst (IsPart r legs t plan 0 [] all_done) (sym e) (record { keys = tt; each = λ s is fit done c l. refl })
+
+pub key-got : {V : Type 0} (P : Shape → Type 0) (es : List (Shape × V)) (j : ℕ) (a : Shape) (v : V) → AllByRecursion P (keys_of es) → slice_get es j ≡ Some (a, v) → P a
+key-got {V} P [] j a v all e = absurd (let f : None ≡ Some (a, v) = e in cc)
+key-got {V} P (f ∷ es) zero a v all e = let same : f ≡ (a, v) = let g : Some f ≡ Some (a, v) = e in cc in subst (λ x. P x.0) same all.0
+key-got P (f ∷ es) (suc j) a v all e = key-got P es j a v all.1 e
+
+pub keys-next : {V : Type 0} (xs : List (Shape × V)) (a : Shape) (v : V) → keys_of (xs ++ (a, v) ∷ []) ≡ keys_of xs ++ a ∷ []
+keys-next [] a v = refl
+keys-next (x ∷ xs) a v = ap (λ ks. x.0 ∷ ks) (keys-next xs a v)

@@ -6,8 +6,10 @@
 -- grouped plan i rows s == they have it when its height at the place that is replaced after i others is 0
 -- summed legs k t slices s c == what comes to s, which fits the legs above the diagonal t, from those of the slices with which it
 --                    interlaces, when its extras are paid
+-- IsEnd r legs t plan slices done rows == each slice above the diagonal t that has a row fits, has at most k extras and the row of what
+--                    comes to it; to each other one whose heights are done nothing comes as far as it is kept
 -- IsPart r legs t plan i slices done rows == each key that has a row has that of its ways; each other one that fits and is done has none
-use Rattle.std.specs.Prelude.{◌≡◌, ℕ, ◌<◌, ℤ, pos, ◌+ℤ◌, Bool, true, cond, List, MatchOption, is_some}
+use Rattle.std.specs.Prelude.{◌≡◌, ℕ, ◌<◌, ◌≤◌, ℤ, pos, ◌+ℤ◌, Bool, true, cond, List, MatchOption, is_some}
 use Rattle.std.specs.List.{AllByRecursion}
 use Rattle.std.specs.Map.{lookup}
 use Rattle.tv_lemmas.specs.Sums.{sum_of}
@@ -15,12 +17,14 @@ use Rattle.tv_ring.specs.Operations.{Operations}
 use Rattle.tv_cells.specs.declared.legs.Legs.{Legs}
 use Rattle.tv_spec_slices.specs.Slices.{Shape, at, same_shape, interlaces, fits, extras_of}
 use Rattle.tv_spec_slices.specs.Paths.{ways_at}
+use Rattle.tv_laws_sums.specs.Mixed.{value}
 use Rattle.tv_laws_sums.specs.Sums.{charged, kept, through}
+use Rattle.tv_laws_sums.specs.Laws.{IsLow}
 use Rattle.tv_slices.specs.declared.row.Row.{Row}
-use Rattle.tv_slices.specs.Tables.{HasRow}
+use Rattle.tv_slices.specs.Tables.{known, HasRow}
 use Rattle.tv_sums.specs.declared.plan.Plan.{Plan}
 use Rattle.tv_sums.specs.Plans.{left_at, are_fit}
-use Rattle.tv_sums.specs.Keys.{IsKey, opened}
+use Rattle.tv_sums.specs.Keys.{key, IsKey, opened}
 
 abbrev pub ways_in : Legs → ℤ → Plan → ℕ → List Shape → Shape → ℕ → ℕ
 ways_in legs t plan i slices s c = through legs plan.k t plan.top plan.n i slices (at s) c
@@ -45,3 +49,8 @@ pub record IsPart {A : Type 0} (r : Operations A) (legs : Legs) (t : ℤ) (plan 
   pub keys : AllByRecursion (λ e. IsKey plan.top plan.n e.0 × (are_fit legs plan i (at e.0) ≡ true)) rows
   pub each : (s : Shape) → IsKey plan.top plan.n s → are_fit legs plan i (at s) ≡ true →
       MatchOption (lookup (same_shape s) rows) (done s ≡ true → (c : ℕ) → c < kept_in legs plan i s → ways_in legs t plan i slices s c ≡ 0) (HasRow r (ways_in legs t plan i slices s) (kept_in legs plan i s))
+
+pub record IsEnd {A : Type 0} (r : Operations A) (legs : Legs) (t : ℤ) (plan : Plan) (slices : List Shape) (done : Shape → Bool) (rows : List (Shape × Row A)) : Type 0 where
+  pub keys : AllByRecursion (λ e. (fits legs (t +ℤ pos 1) e.0 ≡ true) × (IsLow plan.top plan.n e.0 × (extras_of legs (t +ℤ pos 1) e.0 ≤ plan.k))) rows
+  pub each : (s : Shape) → fits legs (t +ℤ pos 1) s ≡ true → IsLow plan.top plan.n s → extras_of legs (t +ℤ pos 1) s ≤ plan.k →
+      MatchOption (lookup (same_shape s) rows) (done (key (value plan.top s) plan.n) ≡ true → (c : ℕ) → c < known legs plan.k (t +ℤ pos 1) s → summed legs plan.k t slices s c ≡ 0) (HasRow r (summed legs plan.k t slices s) (known legs plan.k (t +ℤ pos 1) s))

@@ -1,11 +1,14 @@
 //! The table of the next diagonal.
 
-ghost use Rattle.std.specs.Prelude.{◌≡◌, ℕ, ◌+◌, ◌*◌, ◌<◌, ◌≤◌, ◌^◌, pos, neg_ℤ, ◌+ℤ◌, ◌≤ℤ◌, ◌<ℤ◌, unsigned_abs, IfOk, IsErrOf};
+ghost use Rattle.std.specs.Prelude.{◌≡◌, ℕ, suc, ◌+◌, ◌*◌, ◌<◌, ◌≤◌, ◌^◌, pos, neg_ℤ, ◌+ℤ◌, ◌≤ℤ◌, ◌<ℤ◌, unsigned_abs, IfOk, IsErrOf};
 ghost use Rattle.std.specs.List.{AllByRecursion};
+ghost use Rattle.std.specs.Map.{keys_of};
 ghost use Rattle.tv_ring.specs.Operations.{limit};
 ghost use Rattle.tv_cells.specs.Extras.{extent, count};
 ghost use Rattle.tv_spec_slices.specs.Slices.{reach};
+ghost use Rattle.tv_laws_sums.specs.Laws.{AreLow};
 ghost use Rattle.tv_slices.specs.Tables.{ways_to, IsTable};
+ghost use Rattle.tv_sums.specs.Plans.{plan_for, IsSmall};
 
 use crate::last::{first_heights, last_slices};
 use crate::places::replaced;
@@ -56,19 +59,34 @@ fn by_sums<C: Ring>(
     ensures value { IfOk result (λ next. IsTable C.ring legs.now k (t +ℤ pos 1) (ways_to legs.now k (t +ℤ pos 1)) next.entries) }
 {
     legs.known();
-    let plan = Plan {
+    let _ = table.len();
+    let plan = plan_above(legs, k, t, table);
+    let mut heights = first_heights(alloc, legs, plan, table)?;
+    for i in 0..plan.n {
+        heights = replaced(alloc, legs, plan, i, &heights)?;
+    }
+    last_slices(alloc, legs, plan, t + 1, &heights)
+}
+
+// How the slices of the table, which are on the diagonal t, become those above.
+fn plan_above<C: Ring>(legs: &Legs, k: u32, t: i32, table: &IndexMap<Slice, Row<C>>) -> Plan
+    requires diagonal { unsigned_abs t < 2 ^ 30 }
+    requires few { k < 2 ^ 29 }
+    requires table { IsTable C.ring legs.now k t (ways_to legs.now k t) table.now.entries }
+    ensures small { IsSmall result }
+    ensures value { result ≡ plan_for k t (suc (k + extent legs.now)) result.n }
+    ensures low { AreLow result.top result.n (keys_of table.now.entries) }
+    ensures short { AllByRecursion (λ a. reach a < result.n) (keys_of table.now.entries) }
+{
+    legs.known();
+    Plan {
         k,
         grows: t < 0,
         x: x_from(t + 1),
         y: y_from(t + 1),
         top: k + legs.extent() + 1,
         n: longest(table) + 1,
-    };
-    let mut heights = first_heights(alloc, legs, plan, table)?;
-    for i in 0..plan.n {
-        heights = replaced(alloc, legs, plan, i, &heights)?;
     }
-    last_slices(alloc, legs, plan, t + 1, &heights)
 }
 
 // The most places that a slice of the table has.
