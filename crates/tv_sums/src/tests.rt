@@ -1,14 +1,14 @@
-//! The numbers of plane partitions, as they are known from outside, and numbers beside legs as the listing of neighbours has them.
+//! The numbers of plane partitions and of boxes beside legs, as they are known from outside, and the first step of a table.
 
+use crate::slice_counts;
 use crate::table::next_table_by_sums;
 use std::alloc::Global;
 use std::test::Fail;
 use tv_cells::legs::Legs;
+use tv_interlace::slice::Slice;
 use tv_partition::diagram::Diagram;
 use tv_ring::Whole;
-use tv_slices::bare::bare_slice;
-use tv_slices::counts::{diagonal_at, first_table};
-use tv_slices::slice_counts;
+use tv_slices::counts::{diagonal_at, first_table, row_of};
 
 fn legs_of(alloc: Global, x: &[u32], y: &[u32], z: &[u32]) -> Result<Legs, Fail> {
     Ok(Legs {
@@ -18,29 +18,13 @@ fn legs_of(alloc: Global, x: &[u32], y: &[u32], z: &[u32]) -> Result<Legs, Fail>
     })
 }
 
-fn by_sums(alloc: Global, legs: &Legs, k: u32) -> Result<Vec<i128>, Fail> {
-    let far = k + legs.extent();
-    let mut table = first_table::<Whole>(alloc, legs, k, far)?;
-    for i in 0..2 * far {
-        table = next_table_by_sums(alloc, legs, k, diagonal_at(i, far), &table)?;
-    }
-    let last = bare_slice(alloc, legs, diagonal_at(2 * far, far))?;
-    let mut counts = Vec::new(alloc);
-    if let Some(row) = table.get(&last) {
-        for count in row.counts.iter() {
-            counts.push(count.get())?;
-        }
-    }
-    Ok(counts)
-}
-
 #[test]
 fn counts_plane_partitions(rt: HostRuntime) -> Result<(), Fail> {
     let legs = legs_of(rt.alloc(), &[], &[], &[])?;
-    let counts = by_sums(rt.alloc(), &legs, 6)?;
+    let counts: Vec<Whole> = slice_counts(rt.alloc(), &legs, 6)?;
     assert_eq!(rt; counts.len(), 7);
     for (count, want) in counts.iter().zip([1, 1, 3, 6, 13, 24, 48]) {
-        assert_eq!(rt; *count, want);
+        assert_eq!(rt; count.get(), want);
     }
     Ok(())
 }
@@ -48,14 +32,29 @@ fn counts_plane_partitions(rt: HostRuntime) -> Result<(), Fail> {
 #[test]
 fn counts_beside_legs(rt: HostRuntime) -> Result<(), Fail> {
     let legs = legs_of(rt.alloc(), &[2, 1], &[1], &[3, 1])?;
-    let counts = by_sums(rt.alloc(), &legs, 6)?;
-    let listed: Vec<Whole> = slice_counts(rt.alloc(), &legs, 6)?;
-    assert_eq!(rt; counts.len(), listed.len());
-    for (count, want) in counts.iter().zip(listed.iter()) {
-        assert_eq!(rt; *count, want.get());
-    }
+    let counts: Vec<Whole> = slice_counts(rt.alloc(), &legs, 6)?;
+    assert_eq!(rt; counts.len(), 7);
     for (count, want) in counts.iter().zip([1, 4, 14, 41, 110, 272, 639]) {
-        assert_eq!(rt; *count, want);
+        assert_eq!(rt; count.get(), want);
+    }
+    Ok(())
+}
+
+#[test]
+fn one_box_stands_in_one_way(rt: HostRuntime) -> Result<(), Fail> {
+    let legs = Legs {
+        along_x: Diagram::empty(rt.alloc()),
+        along_y: Diagram::empty(rt.alloc()),
+        along_z: Diagram::empty(rt.alloc()),
+    };
+    let first = first_table::<Whole>(rt.alloc(), &legs, 1, 1)?;
+    let middle = next_table_by_sums(rt.alloc(), &legs, 1, diagonal_at(0, 1), &first)?;
+    assert_eq!(rt; middle.len(), 2);
+    let box_alone = Slice::new(0, vec![in rt.alloc(); 1]?);
+    let counts = row_of(rt.alloc(), middle.get(&box_alone), 2)?;
+    assert_eq!(rt; counts.len(), 2);
+    for (count, want) in counts.iter().zip([0, 1]) {
+        assert_eq!(rt; count.get(), want);
     }
     Ok(())
 }

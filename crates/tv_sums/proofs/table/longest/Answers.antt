@@ -31,8 +31,12 @@ loop-j-preserved g c =
           let a = w.in-Some.a.now in let new = c.match-get_index.most in
           let is : new ≡ max (reach a) old = w.most-is ∙ (w.max-most.ensures ∙ ap (λ v. max v old) w.reach.ensures.value) in
           let second : reach a ≤ new = greater (reach a) old new is in
-          let bound : new < 2 ^ 31 = most (2 ^ 31) (reach a) old new is (subst (λ v. v < 2 ^ 31) w.reach.ensures.value w.reach.ensures.bound) c.loop-j.invariant.0 in
-          (bound, (subst (AllByRecursion (λ e. reach e.0 ≤ new)) (sym (take-next es c.loop-j.j _ here.0 here.1)) (all-push (λ e. reach e.0 ≤ new) (take c.loop-j.j es) _ (all-onto (λ e. reach e.0 ≤ old) (λ e. reach e.0 ≤ new) (λ e l. wider (reach a) old new (reach e.0) is l) (take c.loop-j.j es) c.loop-j.invariant.1.0) second),
-            λ m all. least (reach a) old new m is (all-got (λ e. reach e.0 ≤ m) es c.loop-j.j _ all entry) (c.loop-j.invariant.1.1 m all)))
+          let bound : new < 2 ^ 31 = most (2 ^ 31) (reach a) old new is (subst (λ v. v < 2 ^ 31) w.reach.ensures.value w.reach.ensures.bound) c.loop-j.invariant.0 in (
+            bound,
+            (
+              subst (AllByRecursion (λ e. reach e.0 ≤ new)) (sym (take-next es c.loop-j.j _ here.0 here.1)) (all-push (λ e. reach e.0 ≤ new) (take c.loop-j.j es) _ (all-onto (λ e. reach e.0 ≤ old) (λ e. reach e.0 ≤ new) (λ e l. wider (reach a) old new (reach e.0) is l) (take c.loop-j.j es) c.loop-j.invariant.1.0) second),
+              λ m all. least (reach a) old new m is (all-got (λ e. reach e.0 ≤ m) es c.loop-j.j _ all entry) (c.loop-j.invariant.1.1 m all),
+            ),
+          )
       | in_default w ↦ absurd (let off : false ≡ true = w.in_default.ensures.found.1 (omega arith) in cc)
     ]
