@@ -1,12 +1,11 @@
 -- When the groups of all keys of a table are done, its place is replaced.
-use Rattle.std.proofs.Common.{◌≡◌, ℕ, zero, suc, ◌<◌, ◌≤◌, ℤ, Bool, true, false, List, [], ◌∷◌, ◌++◌, Option, Some, None, refl, sym, ◌∙◌, ap, subst, arith, inl, inr}
-use Rattle.std.specs.Prelude.{◌⊎◌, ◌&&◌, slice_get}
+use Rattle.std.proofs.Common.{◌≡◌, ℕ, zero, suc, ◌<◌, ◌≤◌, ℤ, Bool, true, false, List, [], ◌∷◌, ◌++◌, Some, None, refl, sym, ◌∙◌, ap, subst, inl, inr}
+use Rattle.std.specs.Prelude.{◌⊎◌, slice_get}
 use Rattle.std.specs.List.{AllByRecursion}
-use Rattle.std.specs.Map.{lookup}
 use Rattle.std.proofs.lemmas.Bool.{and_parts}
 use Rattle.tv_ring.specs.Operations.{Operations}
 use Rattle.tv_cells.specs.declared.legs.Legs.{Legs}
-use Rattle.tv_spec_slices.specs.Slices.{Shape, at, same_shape}
+use Rattle.tv_spec_slices.specs.Slices.{Shape, at}
 use Rattle.tv_laws_sums.specs.Mixed.{put}
 use Rattle.tv_laws_sums.specs.Laws.{AreLow}
 use Rattle.tv_laws_sums.specs.Sums.{through, kept}

@@ -2,23 +2,21 @@
 --
 -- slice-of-heights   heights that pass the test are those of a slice that fits
 -- heights-of-slice   the heights of a slice that fits pass it, and the slice is made of them
-use Rattle.std.proofs.Common.{◌≡◌, ℕ, zero, suc, ◌+◌, ◌-◌, ◌<◌, ◌≤◌, ℤ, pos, ◌+ℤ◌, Bool, true, false, List, [], ◌∷◌, length, refl, sym, ◌∙◌, ap, subst, arith, inl, inr}
-use Rattle.std.specs.Prelude.{cond, max, not, ◌⊎◌, ◌&&◌, ◌||◌, nat_eq, nat_lt, nat_le, slice_index}
+use Rattle.std.proofs.Common.{◌≡◌, ℕ, zero, suc, ◌+◌, ◌-◌, ◌<◌, ◌≤◌, ℤ, pos, ◌+ℤ◌, Bool, true, false, List, [], ◌∷◌, length, refl, sym, ◌∙◌, ap, arith, inl, inr}
+use Rattle.std.specs.Prelude.{cond, max, not, ◌&&◌, ◌||◌, nat_eq, nat_lt, nat_le, slice_index}
 use Rattle.std.proofs.Math.Path.{fun_ext}
-use Rattle.std.proofs.lemmas.Bool.{cases_lt, cases_eq, cond-true, cond-false, and_parts, and_from, lt-ltb, le-ltb, le-leb, leb-true, ltb-true, ltb-false, eq-eqb, eqb-true, ne_eqb}
+use Rattle.std.proofs.lemmas.Bool.{cases_lt, cond-true, cond-false, and_parts, and_from, lt-ltb, le-ltb, le-leb, leb-true, ltb-true, ltb-false, eq-eqb, eqb-true, ne_eqb}
 use Rattle.tv_cells.specs.declared.legs.Legs.{Legs}
 use Rattle.tv_cells.specs.Extras.{extent, AreDiagrams}
 use Rattle.tv_spec_slices.specs.Falling.{falls}
 use Rattle.tv_spec_slices.specs.Slices.{Shape, at, reach, base_at, is_endless, fits_at, fits, all_below}
 use Rattle.tv_spec_slices.specs.Paths.{full_of, shape}
 use Rattle.tv_laws_slices.proofs.Bases.{base-past, endless-first, endless-inside}
-use Rattle.tv_laws_slices.proofs.Fits.{below-at, below-from, falls-parts, one-fits, fits-ends, fits-full}
-use Rattle.tv_laws_slices.proofs.Steps.{at-past}
+use Rattle.tv_laws_slices.proofs.Fits.{below-at, below-from, falls-parts, one-fits, fits-full}
 use Rattle.tv_laws_slices.proofs.Least.{trim, trim-at, trim-falls, heights-next}
 use Rattle.tv_laws_sums.specs.Mixed.{grows, value, is_new}
 use Rattle.tv_laws_sums.specs.Laws.{IsLow}
 use Rattle.tv_laws_sums.proofs.Both.{value-past}
-use Rattle.tv_sums.specs.declared.plan.Plan.{Plan}
 use Rattle.tv_sums.specs.Plans.{plan_for, is_fit, are_fit, is_slice}
 use Rattle.tv_sums.specs.Keys.{key, IsKey, cut_from, cut}
 use Rattle.tv_sums.proofs.Keyed.{at-key, key-past, key-own, key-is}

@@ -6,17 +6,16 @@
 -- part-more    so the table of one slice more
 -- part-none    the table of none
 -- key-got, keys-next  the slices of a table, one by one
-use Rattle.std.proofs.Common.{◌≡◌, ℕ, zero, suc, ◌+◌, ◌-◌, ◌<◌, ◌≤◌, ℤ, pos, ◌+ℤ◌, Bool, true, false, List, [], ◌∷◌, ◌++◌, get_or, Option, Some, None, refl, sym, ◌∙◌, ap, subst, arith, inl, inr}
-use Rattle.std.specs.Prelude.{cond, not, ◌||◌, ◌⊎◌, nat_eq, MatchOption, slice_get}
+use Rattle.std.proofs.Common.{◌≡◌, ℕ, zero, suc, ◌+◌, ◌-◌, ◌<◌, ◌≤◌, ℤ, pos, ◌+ℤ◌, Bool, true, false, List, [], ◌∷◌, ◌++◌, get_or, Option, Some, None, refl, sym, ◌∙◌, ap, subst, arith}
+use Rattle.std.specs.Prelude.{cond, not, ◌||◌, nat_eq, MatchOption, slice_get}
 use Rattle.std.specs.List.{AllByRecursion}
 use Rattle.std.specs.Map.{lookup, keys_of}
-use Rattle.std.proofs.lemmas.Bool.{cases_Bool, eqb-true, eq-eqb}
+use Rattle.std.proofs.lemmas.Bool.{eqb-true, eq-eqb}
 use Rattle.indexmap.specs.IndexMap.{insert_entry}
 use Rattle.tv_lemmas.specs.Sums.{sum_of}
 use Rattle.tv_lemmas.proofs.Sums.{sum_of-append, sum_of-one}
 use Rattle.tv_ring.specs.Operations.{Operations}
 use Rattle.tv_cells.specs.declared.legs.Legs.{Legs}
-use Rattle.tv_cells.specs.Cells.{below}
 use Rattle.tv_spec_slices.specs.Slices.{Shape, at, same_shape, over, completion}
 use Rattle.tv_spec_slices.specs.Paths.{shape, ways_at}
 use Rattle.tv_laws_slices.proofs.Fits.{below-at, below-from}
@@ -33,14 +32,14 @@ use Rattle.tv_slices.specs.declared.row.Row.{Row}
 use Rattle.tv_slices.specs.Tables.{known, HasRow}
 use Rattle.tv_slices.proofs.Put.{row-same}
 use Rattle.tv_sums.specs.declared.plan.Plan.{Plan}
-use Rattle.tv_sums.specs.Plans.{plan_for, left_at, is_fit, are_fit}
+use Rattle.tv_sums.specs.Plans.{plan_for, is_fit, are_fit}
 use Rattle.tv_sums.specs.Keys.{key, IsKey}
 use Rattle.tv_sums.specs.Added.{Tells}
 use Rattle.tv_sums.specs.Parts.{kept_in, ways_in, all_done, IsPart}
 use Rattle.tv_sums.proofs.Told.{charged-none, tells-fewer, tells-row}
 use Rattle.tv_sums.proofs.Parted.{all-put}
 use Rattle.tv_sums.proofs.Round.{strip}
-use Rattle.tv_sums.proofs.Keyed.{at-key, key-is, key-own, listed-own}
+use Rattle.tv_sums.proofs.Keyed.{at-key, key-is, listed-own}
 
 spent-none : (legs : Legs) (t : ℤ) (n : ℕ) (h : ℕ → ℕ) → spent legs t n 0 h ≡ 0
 spent-none legs t n h = sum_of-zeros (λ d. cond (is_new (grows t) n 0 d) (over legs (t +ℤ pos 1) (h d) d) 0) 0 n (λ d l m. ap (λ q. cond q (over legs (t +ℤ pos 1) (h d) d) 0) (none-new (grows t) n d (inside d m)))

@@ -3,32 +3,29 @@
 -- group-key     the group of a key is a key, which fits where that one does
 -- done-put      what is grouped when one group more is done
 -- group-none    where no key of a group has a row, no ways lead up to its new heights
-use Rattle.std.proofs.Common.{◌≡◌, ℕ, zero, suc, ◌+◌, ◌-◌, ◌<◌, ◌≤◌, ℤ, Bool, true, false, List, [], ◌∷◌, Option, Some, None, refl, sym, ◌∙◌, ap, subst, arith, inl, inr}
-use Rattle.std.specs.Prelude.{cond, ◌⊎◌, ◌&&◌, ◌||◌, nat_le, MatchOption, is_some}
+use Rattle.std.proofs.Common.{◌≡◌, ℕ, suc, ◌+◌, ◌-◌, ◌<◌, ◌≤◌, ℤ, Bool, true, false, List, [], ◌∷◌, Option, Some, None, refl, sym, ◌∙◌, ap, subst, arith, inl, inr}
+use Rattle.std.specs.Prelude.{cond, ◌⊎◌, ◌||◌, MatchOption, is_some}
 use Rattle.std.specs.List.{AllByRecursion}
 use Rattle.std.specs.Map.{lookup}
-use Rattle.std.proofs.lemmas.Bool.{cases_Bool, cases_lt, and_parts, lt-leb, le-leb}
-use Rattle.tv_lemmas.specs.Sums.{sum_of}
+use Rattle.std.proofs.lemmas.Bool.{cases_lt, lt-leb, le-leb}
 use Rattle.tv_ring.specs.Operations.{Operations}
 use Rattle.tv_cells.specs.declared.legs.Legs.{Legs}
-use Rattle.tv_cells.specs.Cells.{below}
 use Rattle.tv_spec_slices.specs.Slices.{Shape, at, same_shape}
 use Rattle.tv_laws_slices.proofs.Sums.{sum_of-zeros}
 use Rattle.tv_laws_slices.proofs.Pushed.{same-shape, own-shape}
-use Rattle.tv_laws_sums.specs.Mixed.{before, put, lowest, highest, nth}
+use Rattle.tv_laws_sums.specs.Mixed.{put, lowest, highest, nth}
 use Rattle.tv_laws_sums.specs.Sums.{charged, kept, through}
 use Rattle.tv_laws_sums.specs.Laws.{AreLow}
 use Rattle.tv_laws_sums.proofs.Replaced.{place-inside}
 use Rattle.tv_slices.specs.declared.row.Row.{Row}
 use Rattle.tv_slices.specs.Tables.{HasRow}
 use Rattle.tv_sums.specs.declared.plan.Plan.{Plan}
-use Rattle.tv_sums.specs.Plans.{over_at, left_at, is_fit, are_fit}
+use Rattle.tv_sums.specs.Plans.{over_at, left_at, are_fit}
 use Rattle.tv_sums.specs.Keys.{key, IsKey, opened}
-use Rattle.tv_sums.specs.Parts.{kept_in, ways_in, all_done, has_key, grouped, IsPart}
-use Rattle.tv_sums.proofs.Parted.{part-turned}
-use Rattle.tv_sums.proofs.Keyed.{at-key, key-own, key-is, key-past, put-none, put-low, put-again, put-own}
-use Rattle.tv_sums.proofs.Walked.{IsLawful, spot, met_in, sums_to, group-own, height-long}
-use Rattle.tv_sums.proofs.Round.{fit-before, fit-after, nth-under, before-under, strip}
+use Rattle.tv_sums.specs.Parts.{kept_in, ways_in, all_done, has_key, IsPart}
+use Rattle.tv_sums.proofs.Keyed.{at-key, key-is, key-past, put-none, put-low}
+use Rattle.tv_sums.proofs.Walked.{IsLawful, spot, met_in, sums_to, height-long}
+use Rattle.tv_sums.proofs.Round.{fit-before, nth-under, before-under}
 
 pub at-opened : (plan : Plan) (i : ℕ) (s : Shape) → i < plan.n → IsKey plan.top plan.n s → at (opened plan i s) ≡ put (at s) (spot plan i) 0
 at-opened plan i s inside is = at-key (put (at s) (spot plan i) 0) plan.n (put-none (at s) plan.n (spot plan i) 0 (place-inside plan.grows plan.n i inside) (key-past plan.top plan.n s is))

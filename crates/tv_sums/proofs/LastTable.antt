@@ -5,7 +5,7 @@
 -- end-put      one that gets the row of a slice more
 -- end-passed   heights of no slice that has few extras
 -- end-whole    when all are read it is the table of what comes to the slices
-use Rattle.std.proofs.Common.{◌≡◌, ℕ, zero, suc, ◌+◌, ◌-◌, ◌<◌, ◌≤◌, ℤ, pos, ◌+ℤ◌, Bool, true, false, List, [], ◌∷◌, ◌++◌, Option, Some, None, refl, sym, ◌∙◌, ap, subst, arith, inl, inr}
+use Rattle.std.proofs.Common.{◌≡◌, ℕ, suc, ◌+◌, ◌<◌, ◌≤◌, ℤ, pos, ◌+ℤ◌, Bool, true, false, List, [], ◌∷◌, ◌++◌, Option, Some, None, refl, sym, ◌∙◌, ap, subst, arith, inl, inr}
 use Rattle.std.specs.Prelude.{cond, ◌⊎◌, ◌||◌, MatchOption, is_some}
 use Rattle.std.specs.List.{AllByRecursion}
 use Rattle.std.specs.Map.{lookup}
@@ -20,7 +20,7 @@ use Rattle.tv_laws_sums.specs.Mixed.{value}
 use Rattle.tv_laws_sums.specs.Laws.{IsLow, AreLow}
 use Rattle.tv_slices.specs.declared.row.Row.{Row}
 use Rattle.tv_slices.specs.Tables.{known, HasRow, IsTable}
-use Rattle.tv_sums.specs.Plans.{plan_for, is_slice, are_fit}
+use Rattle.tv_sums.specs.Plans.{plan_for, is_slice}
 use Rattle.tv_sums.specs.Keys.{key, IsKey}
 use Rattle.tv_sums.specs.Added.{Tells}
 use Rattle.tv_sums.specs.Parts.{kept_in, ways_in, summed, all_done, has_key, IsPart, IsEnd}

@@ -4,7 +4,7 @@
 -- summed-table    so their table is that of the ways
 -- plan-own        the plan of a table by its own numbers
 -- rows-few        the slices of a table have no more places and no greater heights than their extras let them
-use Rattle.std.proofs.Common.{◌≡◌, ℕ, suc, ◌+◌, ◌-◌, ◌<◌, ◌≤◌, ℤ, pos, neg_ℤ, ◌+ℤ◌, ◌≤ℤ◌, Bool, true, false, List, [], ◌∷◌, refl, sym, ◌∙◌, ap, arith}
+use Rattle.std.proofs.Common.{◌≡◌, ℕ, suc, ◌+◌, ◌<◌, ◌≤◌, ℤ, pos, neg_ℤ, ◌+ℤ◌, ◌≤ℤ◌, Bool, true, false, List, [], ◌∷◌, refl, sym, ◌∙◌, ap, arith}
 use Rattle.std.specs.Prelude.{cond}
 use Rattle.std.specs.List.{AllByRecursion, IsDistinct}
 use Rattle.std.specs.Map.{keys_of}
@@ -17,9 +17,9 @@ use Rattle.tv_spec_slices.specs.Paths.{ways_at}
 use Rattle.tv_laws_slices.proofs.Sums.{sum_of-zero}
 use Rattle.tv_laws_slices.proofs.Taken.{reach-few, height-few}
 use Rattle.tv_laws_sums.specs.Sums.{charged}
-use Rattle.tv_laws_sums.specs.Laws.{IsLow, AreLow}
+use Rattle.tv_laws_sums.specs.Laws.{AreLow}
 use Rattle.tv_slices.specs.declared.row.Row.{Row}
-use Rattle.tv_slices.specs.Tables.{known, ways_to, IsTable}
+use Rattle.tv_slices.specs.Tables.{ways_to, IsTable}
 use Rattle.tv_slices.proofs.Levels.{share, shares, shares-all}
 use Rattle.tv_slices.proofs.Put.{table-same}
 use Rattle.tv_sums.specs.declared.plan.Plan.{Plan}

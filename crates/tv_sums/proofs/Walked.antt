@@ -5,8 +5,8 @@
 -- height-long, height-charged  what it tells of the new heights
 -- group-own     a key is that of its group with its own height at the place
 -- passed-one    one height more is passed; passed-all, all are
-use Rattle.std.proofs.Common.{◌≡◌, ℕ, zero, suc, ◌+◌, ◌-◌, ◌<◌, ◌≤◌, ℤ, Bool, true, false, List, [], refl, sym, ◌∙◌, ap, subst, arith, inl, inr}
-use Rattle.std.specs.Prelude.{◌⊎◌, ◌&&◌, ◌||◌, nat_eq, nat_lt, nat_le}
+use Rattle.std.proofs.Common.{◌≡◌, ℕ, suc, ◌+◌, ◌-◌, ◌<◌, ◌≤◌, ℤ, Bool, true, false, List, [], refl, sym, ◌∙◌, ap, subst, arith, inl, inr}
+use Rattle.std.specs.Prelude.{◌⊎◌, ◌&&◌, ◌||◌, nat_lt, nat_le}
 use Rattle.std.proofs.lemmas.Bool.{cases_lt, and_parts, and_from, or_cases, leb-true, ltb-true, lt-ltb, le-leb}
 use Rattle.tv_lemmas.specs.Sums.{sum_of}
 use Rattle.tv_ring.specs.Operations.{Operations}
@@ -23,7 +23,7 @@ use Rattle.tv_laws_sums.proofs.Running.{running-sums, none-outside}
 use Rattle.tv_laws_sums.proofs.Left.{left-steps, left-rises}
 use Rattle.tv_slices.specs.declared.row.Row.{Row}
 use Rattle.tv_sums.specs.declared.plan.Plan.{Plan}
-use Rattle.tv_sums.specs.Plans.{plan_for, over_at, left_at, are_fit}
+use Rattle.tv_sums.specs.Plans.{plan_for, over_at, left_at}
 use Rattle.tv_sums.specs.Keys.{key, IsKey, opened}
 use Rattle.tv_sums.specs.Added.{Tells}
 use Rattle.tv_sums.specs.Parts.{kept_in, ways_in, IsPart}

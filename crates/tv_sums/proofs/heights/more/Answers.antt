@@ -1,9 +1,8 @@
-use Rattle.std.proofs.Common.{◌≡◌, ℕ, ◌+◌, ◌<◌, Option, sym, ap, ◌∙◌, subst, arith}
+use Rattle.std.proofs.Common.{◌≡◌, ℕ, ◌+◌, ◌<◌, sym, ap, subst, arith}
 use Rattle.std.specs.Prelude.{MatchOption}
 use Rattle.std.proofs.lemmas.Result.{IfOk-weaker}
 use Rattle.tv_slices.specs.Tables.{HasRow}
-use Rattle.tv_slices.specs.declared.row.Row.{Row}
-use Rattle.tv_sums.specs.Added.{Tells, IsSum}
+use Rattle.tv_sums.specs.Added.{IsSum}
 use Rattle.tv_sums.specs.Parts.{kept_in}
 use Rattle.tv_sums.proofs.Told.{tells-row, row-sum, charged-none}
 use Rattle.tv_sums.proofs.heights.more.Goals as goal

@@ -1,6 +1,5 @@
-use Rattle.std.proofs.Common.{◌≡◌, ℕ, ◌+◌, ◌-◌, ◌<◌, ◌≤◌, suc, Bool, true, false, sym, ap, ◌∙◌, subst, arith, refl}
+use Rattle.std.proofs.Common.{◌≡◌, ℕ, ◌+◌, ◌-◌, ◌≤◌, suc, true, sym, ap, ◌∙◌, subst, arith}
 use Rattle.tv_spec_slices.specs.Slices.{at}
-use Rattle.tv_laws_sums.specs.Sums.{charged}
 use Rattle.tv_sums.specs.Plans.{over_at, left_at, is_fit}
 use Rattle.tv_sums.specs.Parts.{kept_in, ways_in}
 use Rattle.tv_sums.specs.Added.{IsSum}

@@ -1,5 +1,5 @@
-use Rattle.std.proofs.Common.{◌≡◌, ℕ, ◌+◌, ◌-◌, ◌<◌, ◌≤◌, suc, min, sym, ap, ◌∙◌, subst, arith}
-use Rattle.tv_spec_slices.specs.Slices.{Shape, at}
+use Rattle.std.proofs.Common.{◌≡◌, ℕ, ◌+◌, ◌-◌, ◌≤◌, suc, min, ap, ◌∙◌, subst, arith}
+use Rattle.tv_spec_slices.specs.Slices.{at}
 use Rattle.tv_laws_sums.specs.Mixed.{put, lowest, highest, nth}
 use Rattle.tv_sums.specs.Keys.{key}
 use Rattle.tv_sums.specs.Parts.{IsPart}

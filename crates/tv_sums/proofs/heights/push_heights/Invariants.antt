@@ -1,4 +1,4 @@
-use Rattle.std.proofs.Common.{◌≡◌, ℕ, ◌+◌, ◌≤◌, suc, ℤ, Bool, true, List}
+use Rattle.std.proofs.Common.{◌≡◌, suc, ℤ, Bool, true, List}
 use Rattle.tv_spec_slices.specs.Slices.{Shape, at}
 use Rattle.tv_laws_sums.specs.Laws.{AreLow}
 use Rattle.tv_sums.specs.Plans.{plan_for, are_fit}

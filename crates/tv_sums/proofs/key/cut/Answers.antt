@@ -1,8 +1,8 @@
-use Rattle.std.proofs.Common.{◌+◌, length, length-append, ap, arith, ◌∙◌, sym}
+use Rattle.std.proofs.Common.{length, length-append, ap, arith, ◌∙◌}
 use Rattle.tv_spec_slices.specs.Slices.{at}
 use Rattle.tv_spec_slices.specs.Paths.{shape}
 use Rattle.tv_sums.specs.Keys.{cut_from}
-use Rattle.tv_sums.proofs.Cut.{cut-next, cut-stop, cut-done, cut-start}
+use Rattle.tv_sums.proofs.Cut.{cut-next, cut-stop, cut-start}
 use Rattle.tv_sums.proofs.key.cut.Goals as goal
 
 pub loop-i-init : goal.loop-i-init

@@ -1,6 +1,5 @@
-use Rattle.std.proofs.Common.{◌≡◌, ◌+◌, ◌++◌, ◌∷◌, [], List, true, false, take, sym, ap, ◌∙◌, subst, arith}
+use Rattle.std.proofs.Common.{◌≡◌, ◌+◌, ◌++◌, ◌∷◌, [], true, false, take, sym, ap, ◌∙◌, subst, arith}
 use Rattle.std.specs.Map.{keys_of}
-use Rattle.tv_spec_slices.specs.Slices.{Shape}
 use Rattle.tv_laws_sums.specs.Laws.{IsLow}
 use Rattle.tv_slices.proofs.Levels.{got, row-of, suits-of}
 use Rattle.tv_slices.proofs.Neighbours.{take-next, take-whole}

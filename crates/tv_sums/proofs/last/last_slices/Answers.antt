@@ -1,15 +1,12 @@
-use Rattle.std.proofs.Common.{◌≡◌, ℕ, suc, ◌<◌, ◌+◌, ℤ, pos, ◌+ℤ◌, List, Bool, Option, Some, w32, true, false, refl, take, sym, ap, ◌∙◌, subst, arith, inl}
+use Rattle.std.proofs.Common.{◌≡◌, ℕ, ◌<◌, ◌+◌, w32, true, false, refl, take, sym, ap, ◌∙◌, subst, arith, inl}
 use Rattle.std.specs.Prelude.{◌||◌, MatchOption}
-use Rattle.std.specs.Map.{lookup}
 use Rattle.std.proofs.lemmas.Int.{to_z-of_z}
-use Rattle.tv_cells.specs.Extras.{extent}
 use Rattle.tv_spec_slices.specs.Slices.{Shape, at, same_shape}
-use Rattle.tv_slices.specs.declared.row.Row.{Row}
 use Rattle.tv_slices.specs.Tables.{HasRow, IsTable}
 use Rattle.tv_slices.proofs.Levels.{got}
 use Rattle.tv_slices.proofs.Neighbours.{take-next, take-whole}
 use Rattle.tv_laws_sums.specs.Mixed.{value}
-use Rattle.tv_sums.specs.Plans.{plan_for, are_fit}
+use Rattle.tv_sums.specs.Plans.{are_fit}
 use Rattle.tv_sums.specs.Keys.{key, IsKey}
 use Rattle.tv_sums.specs.Parts.{kept_in, ways_in, summed, all_done, has_key, IsPart, IsEnd}
 use Rattle.tv_sums.proofs.Done.{all-got}

@@ -1,6 +1,5 @@
 use Rattle.std.proofs.Common.{◌≡◌, ℕ, ◌+◌, [], ◌∷◌, ◌++◌, ◌<◌, Option, Some, sym, ap, ◌∙◌, subst}
 use Rattle.std.specs.Prelude.{cond, MatchOption}
-use Rattle.std.specs.Option.{option_copied}
 use Rattle.std.specs.Map.{lookup}
 use Rattle.indexmap.specs.IndexMap.{insert_entry}
 use Rattle.tv_spec_slices.specs.Slices.{Shape, same_shape}
@@ -9,7 +8,6 @@ use Rattle.tv_laws_sums.specs.Mixed.{value}
 use Rattle.tv_slices.specs.declared.row.Row.{Row}
 use Rattle.tv_slices.specs.Tables.{HasRow}
 use Rattle.tv_slices.proofs.Put.{row-same}
-use Rattle.tv_sums.specs.declared.plan.Plan.{Plan}
 use Rattle.tv_sums.specs.Plans.{plan_for}
 use Rattle.tv_sums.specs.Keys.{key}
 use Rattle.tv_sums.specs.Added.{Tells}

@@ -1,4 +1,4 @@
-use Rattle.std.proofs.Common.{◌≡◌, ℕ, suc, ◌<◌, ◌≤◌, ◌+◌, ℤ, pos, ◌+ℤ◌, List, Bool, Option, Some, true, false, sym, ap, ◌∙◌, subst, arith}
+use Rattle.std.proofs.Common.{◌≡◌, ℕ, ◌<◌, ◌≤◌, ◌+◌, pos, ◌+ℤ◌, Some, true, false, sym, ap, ◌∙◌, subst, arith}
 use Rattle.std.specs.Prelude.{◌||◌, cond}
 use Rattle.std.specs.Map.{lookup}
 use Rattle.std.proofs.lemmas.Int.{to_z-of_z}
@@ -7,9 +7,7 @@ use Rattle.tv_cells.specs.Extras.{extent}
 use Rattle.tv_spec_slices.specs.Slices.{Shape, at, same_shape, extras_of}
 use Rattle.tv_spec_slices.specs.Paths.{full_of}
 use Rattle.tv_laws_sums.specs.Sums.{charged}
-use Rattle.tv_slices.specs.declared.row.Row.{Row}
 use Rattle.tv_slices.specs.Tables.{known, HasRow}
-use Rattle.tv_sums.specs.declared.plan.Plan.{Plan}
 use Rattle.tv_sums.specs.Plans.{plan_for, is_slice}
 use Rattle.tv_sums.specs.Keys.{cut}
 use Rattle.tv_sums.specs.Added.{IsSum}

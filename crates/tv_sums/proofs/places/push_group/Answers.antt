@@ -4,9 +4,9 @@ use Rattle.tv_spec_slices.specs.Slices.{at, same_shape}
 use Rattle.tv_laws_sums.specs.Mixed.{put}
 use Rattle.tv_sums.specs.Plans.{are_fit}
 use Rattle.tv_sums.specs.Keys.{key, IsKey, opened}
-use Rattle.tv_sums.specs.Parts.{grouped, has_key}
+use Rattle.tv_sums.specs.Parts.{grouped}
 use Rattle.tv_sums.proofs.Parted.{part-turned}
-use Rattle.tv_sums.proofs.Grouped.{group-key, group-fit, done-put, done-found, done-kept}
+use Rattle.tv_sums.proofs.Grouped.{group-key, group-fit, done-put}
 use Rattle.tv_sums.proofs.places.push_group.Goals as goal
 
 pub returns-clause-table : goal.returns-clause-table

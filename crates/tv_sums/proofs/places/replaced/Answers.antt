@@ -1,4 +1,4 @@
-use Rattle.std.proofs.Common.{◌≡◌, ℕ, ◌+◌, suc, ℤ, Bool, true, false, List, take, sym, ap, ◌∙◌, subst, arith, refl}
+use Rattle.std.proofs.Common.{◌≡◌, ◌+◌, suc, ℤ, Bool, true, false, List, take, sym, ap, subst, arith}
 use Rattle.std.specs.List.{AllByRecursion}
 use Rattle.tv_lemmas.proofs.Members.{all-onto}
 use Rattle.tv_spec_slices.specs.Slices.{Shape, at}
@@ -8,7 +8,7 @@ use Rattle.tv_slices.proofs.Neighbours.{take-next, take-whole}
 use Rattle.tv_laws_sums.specs.Laws.{AreLow}
 use Rattle.tv_sums.specs.Plans.{plan_for, are_fit}
 use Rattle.tv_sums.specs.Keys.{IsKey, opened}
-use Rattle.tv_sums.specs.Parts.{all_done, grouped, has_key, IsPart}
+use Rattle.tv_sums.specs.Parts.{all_done, grouped, IsPart}
 use Rattle.tv_sums.proofs.Walked.{lawful}
 use Rattle.tv_sums.proofs.Done.{all-got, all-push, part-empty, part-whole}
 use Rattle.tv_sums.proofs.places.replaced.Goals as goal

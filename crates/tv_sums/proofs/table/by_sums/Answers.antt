@@ -1,11 +1,10 @@
-use Rattle.std.proofs.Common.{◌≡◌, ℕ, suc, ◌+◌, ℤ, pos, ◌+ℤ◌, List, w32, SFits, to_z, of_z, sym, ap, ◌∙◌, subst, arith}
+use Rattle.std.proofs.Common.{◌≡◌, suc, ◌+◌, pos, ◌+ℤ◌, w32, SFits, to_z, of_z, sym, ap, ◌∙◌, subst, arith}
 use Rattle.std.specs.Map.{keys_of}
 use Rattle.std.proofs.lemmas.Int.{to_z-of_z}
 use Rattle.std.proofs.lemmas.Result.{IfOk-weaker}
 use Rattle.tv_cells.specs.Extras.{extent}
 use Rattle.tv_interlace.proofs.Up.{up-fits}
 use Rattle.tv_slices.specs.Tables.{IsTable}
-use Rattle.tv_sums.specs.declared.plan.Plan.{Plan}
 use Rattle.tv_sums.specs.Plans.{plan_for}
 use Rattle.tv_sums.specs.Parts.{summed, all_done, IsPart}
 use Rattle.tv_sums.proofs.Shared.{plan-own, summed-table}

@@ -1,10 +1,10 @@
-use Rattle.std.proofs.Common.{◌≡◌, ℕ, ◌+◌, ◌<◌, ◌≤◌, ◌^◌, true, false, take, sym, ap, ◌∙◌, subst, arith}
+use Rattle.std.proofs.Common.{◌≡◌, ℕ, ◌<◌, ◌≤◌, ◌^◌, true, false, take, sym, ap, ◌∙◌, subst, arith}
 use Rattle.std.specs.Prelude.{max}
 use Rattle.std.specs.List.{AllByRecursion}
 use Rattle.tv_lemmas.proofs.Members.{all-onto}
 use Rattle.tv_spec_slices.specs.Slices.{reach}
 use Rattle.tv_slices.proofs.Levels.{got}
-use Rattle.tv_slices.proofs.Neighbours.{take-next, take-whole}
+use Rattle.tv_slices.proofs.Neighbours.{take-next}
 use Rattle.tv_sums.proofs.Done.{all-got, all-push}
 use Rattle.tv_sums.proofs.table.longest.Goals as goal
 use Rattle.tv_sums.proofs.table.longest.Goals.{in-Some, in_default}
