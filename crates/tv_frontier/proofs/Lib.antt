@@ -2,6 +2,7 @@ pub mod Joined
 pub mod Picked
 pub mod Least
 pub mod Held
+pub mod Bounded
 pub mod Classes
 pub mod RowAdded
 pub mod Exact

@@ -23,6 +23,7 @@ use Rattle.tv_assignment.proofs.Listed.{cells-few}
 use Rattle.tv_frontier.specs.Picks.{picks, put_by}
 use Rattle.tv_frontier.specs.Sums.{Addend}
 use Rattle.tv_frontier.specs.Rows.{after_of, HasRoom, Holding, KeepsRows, IsCrowdedBy}
+use Rattle.tv_frontier.specs.Bounds.{IsAfter}
 use Rattle.tv_frontier.specs.Layers.{pair_addends, GrowsBy, CrowdedIn}
 use Rattle.tv_frontier.proofs.Grown.{stays, grows, crowded-at, pair-none, pair-great, pair-here}
 use Rattle.tv_frontier.proofs.Classes.{class-small, sum-entries}
@@ -58,12 +59,19 @@ module _ (w : Web) (d t : ℕ) (h g : List Rows) (base added : Assignment) (c e 
       let few = spread-few w (map (is_pending t) (compact w)) h base (part ∙ put-by-is (is_pending t) (compact w) h (nothing (compact w))) (le_trans (state-few w d t h graded first) degree) in
       sum-entries c e (class-small w d c base coordinates rule few (sym class)) (new-small w d t g added graded degree new added-is coordinates rule e also)
 
--- ---- the families of the choices
+module _ (w : Web) (d t : ℕ) (h g : List Rows) where
+  pub absent-after : (ks : List (List Rows)) (x : List Rows) → ks ≡ states w d (suc t) → x ≡ after_of w t h g → AllByRecursion (λ k. same_choice x k ≡ false) ks → AllByRecursion (λ k. same_choice (after_of w t h g) k ≡ false) (states w d (suc t))
+  absent-after ks x is after absent =
+      subst (λ (zs : List (List Rows)). AllByRecursion (λ k. same_choice (after_of w t h g) k ≡ false) zs) is (subst (λ (z : List Rows). AllByRecursion (λ k. same_choice z k ≡ false) ks) after absent)
 
-pub all-set : {X : Type 0} (P : X → Type 0) (xs : List X) (p : ℕ) (x : X) → AllByRecursion P xs → P x → AllByRecursion P (set xs p x)
-all-set P [] p x all here = tt
-all-set P (y ∷ xs) zero x all here = (here, all.1)
-all-set P (y ∷ xs) (suc p) x all here = (all.0, all-set P xs p x all.1 here)
+  pub is-after : (ks : List (List Rows)) (p : ℕ) (x : List Rows) → ks ≡ states w d (suc t) → x ≡ after_of w t h g → degree_of w.heights (class_of w (near_part w t h g)) ≤ℤ pos d → p < length ks → get_or ks p [] ≡ x → IsAfter w d t h g p
+  is-after ks p x is after most within read = record {
+    within = most;
+    place = (let e = ap length is in omega arith);
+    choice = ap (λ zs. get_or zs p []) (sym is) ∙ (read ∙ after);
+  }
+
+-- ---- the families of the choices
 
 module _ {A : Type 0} (IsValue : A → Type 0) (r : Operations A) (w : Web) (d : ℕ) (n : ℤ) (t : ℕ) (h g : List Rows) (us : List (List ℤ)) (keys : List (List Rows)) (parts : List (Family A)) where
   abbrev adds : List Rows → List Addend
