@@ -1,6 +1,6 @@
 //! One state and the choices on the new edges, and the families of the choices after the corner. No sign is known here.
 
-ghost use Rattle.std.specs.Prelude.{◌≡◌, Contains, suc, map, length, IfOk, IfErr, OnOk, MatchOption};
+ghost use Rattle.std.specs.Prelude.{◌≡◌, Contains, suc, map, length, IfOk, IfErr, IfSome, OnOk, MatchOption};
 ghost use Rattle.tv_spec_plane.specs.Web.{compact};
 ghost use Rattle.tv_spec_boxes.specs.Assignments.{class_of};
 ghost use Rattle.tv_spec_partial.specs.Partial.{is_pending};
