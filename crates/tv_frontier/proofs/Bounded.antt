@@ -51,6 +51,9 @@ bound-small w d n low m b t stage bound = (stage-through w d n low m b t stage b
 pub bounds-within : (w : Web) (d : ℕ) (n low m : ℤ) (t : ℕ) (bs : List ℤ) → IsStage w d n low m t → AllByRecursion (IsBound w d n) bs → AllByRecursion IsWithin bs
 bounds-within w d n low m t bs stage all = all-onto (IsBound w d n) IsWithin (λ b bound. (let l = bound-small w d n low m b t stage bound in omega (arith, ints))) bs all
 
+pub bound-at : (w : Web) (d : ℕ) (n : ℤ) (bs : List ℤ) (p : ℕ) (z : ℤ) → AllByRecursion (IsBound w d n) bs → p < length bs → IsBound w d n (get_or bs p z)
+bound-at w d n bs p z all within = all-at (IsBound w d n) bs z all p within
+
 -- ---- families with their bounds
 
 pub without-shaped : {A : Type 0} (w : Web) (d : ℕ) (bs : List ℤ) (fs : List (Family A)) → AreWithout w d bs fs → AllShaped w d bs fs

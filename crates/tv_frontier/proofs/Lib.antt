@@ -16,3 +16,4 @@ pub mod WithSigns
 pub mod Begun
 pub mod Listing
 pub mod Next
+pub mod Planned

@@ -1,7 +1,7 @@
 -- One state and one choice on the new edges: what is computed of them is what the corner has.
 use Rattle.std.specs.Prelude.{◌≡◌, Contains, ℕ, zero, suc, ◌<◌, ◌≤◌, Bool, false, ℤ, pos, ◌≤ℤ◌, ◌<ℤ◌, List, [], ◌∷◌, ◌++◌, map, filter, length}
 use Rattle.std.specs.List.{AllByRecursion, IsDistinct}
-use Rattle.std.proofs.Common.{sym, ap, subst, ◌∙◌, le_trans, get_or}
+use Rattle.std.proofs.Common.{sym, ap, subst, ◌∙◌, le_trans, get_or, arith}
 use Rattle.std.proofs.Math.ListN.{set}
 use Rattle.tv_lemmas.specs.Sums.{plus}
 use Rattle.tv_lemmas.proofs.Members.{all-filter, all-contains, all-any, all-onto}
