@@ -21,7 +21,8 @@ use Rattle.tv_frontier.specs.Joining.{lowest_kept, IsSpan, Reaches}
 use Rattle.tv_frontier.specs.Rows.{after_of, IsBound}
 use Rattle.tv_frontier.specs.Bounds.{shift_of, IsAfter, GoesNowhere, NeedsAtMost, Suffices, AllSuffice, AreBounds, AllReach, IsPlan}
 use Rattle.tv_frontier.proofs.Least.{lowest-low}
-use Rattle.tv_frontier.proofs.Next.{keys-once, take-next}
+use Rattle.tv_frontier.proofs.Bounded.{bound-at, bound-small}
+use Rattle.tv_frontier.proofs.Next.{keys-once, stage-of, take-next}
 
 -- ---- one choice on the new edges
 
@@ -93,6 +94,11 @@ module _ (w : Web) (d t : ℕ) (next : List ℤ) (h : List Rows) where
     where
       needs : NeedsAtMost w d t next h b g
       needs = all-contains (NeedsAtMost w d t next h b) gs g all (subst (λ (zs : List (List Rows)). Contains zs g) (sym listed) among)
+
+pub next-small : (w : Web) (d : ℕ) (n low m : ℤ) (t : ℕ) (next : List ℤ) (p : ℕ) → IsSpan w d n low m → t < length w.triangles → AreBounds w d n (suc t) next → p < length (states w d (suc t)) → unsigned_abs (get_or next p (pos 0)) ≤ 200000000
+next-small w d n low m t next p span corner bounds within =
+    let there : p < length next = (let l = bounds.one_each in omega arith) in
+    bound-small w d n low m (get_or next p (pos 0)) t (stage-of w d n low m t span corner) (bound-at w d n next p (pos 0) bounds.each there)
 
 -- ---- all states before a corner
 
