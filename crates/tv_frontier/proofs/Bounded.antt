@@ -39,6 +39,9 @@ stage-through w d n low m b t stage bound = record {
   corner = stage.corner;
 }
 
+pub stage-read : (w : Web) (d : ℕ) (n low m i j k : ℤ) (t : ℕ) → n ≡ i → low ≡ j → m ≡ k → IsStage w d n low m t → IsStage w d i j k t
+stage-read w d n low m i j k t en el em stage = subst (λ (z : ℤ). IsStage w d z j k t) en (subst (λ (z : ℤ). IsStage w d n z k t) el (subst (λ (z : ℤ). IsStage w d n low z t) em stage))
+
 pub range-of : (w : Web) (d : ℕ) (n low m : ℤ) (t : ℕ) → IsStage w d n low m t → IsRange low m
 range-of w d n low m t stage = record { rises = stage.rises; small_low = stage.small_low; small_upto = stage.small_upto }
 

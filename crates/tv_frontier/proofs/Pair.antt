@@ -1,7 +1,7 @@
 -- One state and one choice on the new edges: what is computed of them is what the corner has.
 use Rattle.std.specs.Prelude.{◌≡◌, Contains, ℕ, zero, suc, ◌<◌, ◌≤◌, Bool, false, ℤ, pos, ◌≤ℤ◌, ◌<ℤ◌, List, [], ◌∷◌, ◌++◌, map, filter, length}
 use Rattle.std.specs.List.{AllByRecursion, IsDistinct}
-use Rattle.std.proofs.Common.{sym, ap, subst, ◌∙◌, le_trans, get_or, arith}
+use Rattle.std.proofs.Common.{refl, sym, ap, subst, ◌∙◌, le_trans, get_or, inl, inr, arith}
 use Rattle.std.proofs.Math.ListN.{set}
 use Rattle.tv_lemmas.specs.Sums.{plus}
 use Rattle.tv_lemmas.proofs.Members.{all-filter, all-contains, all-any, all-onto}
@@ -23,7 +23,7 @@ use Rattle.tv_assignment.proofs.Listed.{cells-few}
 use Rattle.tv_frontier.specs.Picks.{picks, put_by}
 use Rattle.tv_frontier.specs.Sums.{Addend}
 use Rattle.tv_frontier.specs.Rows.{after_of, HasRoom, Holding, KeepsRows, IsCrowdedBy}
-use Rattle.tv_frontier.specs.Bounds.{IsAfter}
+use Rattle.tv_frontier.specs.Bounds.{GoesNowhere, IsAfter}
 use Rattle.tv_frontier.specs.Layers.{pair_addends, GrowsBy, CrowdedIn}
 use Rattle.tv_frontier.proofs.Grown.{stays, grows, crowded-at, pair-none, pair-great, pair-here}
 use Rattle.tv_frontier.proofs.Classes.{class-small, sum-entries}
@@ -77,11 +77,17 @@ module _ {A : Type 0} (IsValue : A → Type 0) (r : Operations A) (w : Web) (d :
   abbrev adds : List Rows → List Addend
   adds = pair_addends w d n t h g us
 
-  pub great-stays : pos d <ℤ degree_of w.heights (class_of w (near_part w t h g)) → GrowsBy IsValue r w d n (suc t) (pair_addends w d n t h g us) keys parts parts
+  great-stays : pos d <ℤ degree_of w.heights (class_of w (near_part w t h g)) → GrowsBy IsValue r w d n (suc t) (pair_addends w d n t h g us) keys parts parts
   great-stays great = stays IsValue r w d n (suc t) adds keys parts (all-any (λ (k : List Rows). adds k ≡ []) (λ k. pair-great w d n t h g us k great) keys)
 
-  pub absent-stays : (x : List Rows) → x ≡ after_of w t h g → AllByRecursion (λ k. same_choice x k ≡ false) keys → GrowsBy IsValue r w d n (suc t) (pair_addends w d n t h g us) keys parts parts
+  absent-stays : (x : List Rows) → x ≡ after_of w t h g → AllByRecursion (λ k. same_choice x k ≡ false) keys → GrowsBy IsValue r w d n (suc t) (pair_addends w d n t h g us) keys parts parts
   absent-stays x is absent = stays IsValue r w d n (suc t) adds keys parts (all-onto (λ k. same_choice x k ≡ false) (λ (k : List Rows). adds k ≡ []) (λ k off. pair-none w d n t h g us k (ap (λ y. same_choice y k) (sym is) ∙ off)) keys absent)
+
+  pub nowhere-stays : keys ≡ states w d (suc t) → GoesNowhere w d t h g → GrowsBy IsValue r w d n (suc t) (pair_addends w d n t h g us) keys parts parts
+  nowhere-stays is nowhere = elim nowhere [
+      | inl great ↦ great-stays great
+      | inr absent ↦ absent-stays (after_of w t h g) refl (subst (λ (ks : List (List Rows)). AllByRecursion (λ k. same_choice (after_of w t h g) k ≡ false) ks) (sym is) absent)
+    ]
 
   module _ (p : ℕ) (x a b : List Rows) (f e : Family A) (within : p < length keys) (there : get_or keys p [] ≡ x) (is : x ≡ after_of w t h g) (at_part : get_or parts p f ≡ f) (first : a ≡ h) (new : b ≡ g) (most : degree_of w.heights (class_of w (near_part w t h g)) ≤ℤ pos d) where
     pub pair-grows : IsDistinct same_choice keys → KeepsRows IsValue r w d n t a b us f e → GrowsBy IsValue r w d n (suc t) (pair_addends w d n t h g us) keys parts (set parts p e)
