@@ -215,3 +215,16 @@ first-reach w d n low m us span is =
     let none = lowest-low w d in let e = span.upto in
     let most : n ≤ℤ m = omega (arith, ints) in
     subst (AllReach n) (sym is) (most, tt)
+
+module _ (w : Web) (d : ℕ) (n : ℤ) (t s : ℕ) (plan : List (List ℤ)) (us bs : List ℤ) (is : IsPlan w d n t t plan) (before : s < t) (read : get_or plan ((t - 1) - s) [] ≡ bs) (same : us ≡ bs) where
+  pub next-suffices : (j : ℕ) → (s + 1) + suc j ≡ t → AllSuffice w d n (s + 1) (get_or plan j []) us
+  next-suffices j sum =
+      let place : suc j ≡ (t - 1) - s = omega arith in
+      let now : get_or plan (suc j) [] ≡ us = ap (λ z. get_or plan z []) place ∙ (read ∙ sym same) in
+      subst (AllSuffice w d n (s + 1) (get_or plan j [])) now (is.steps (s + 1) j sum (omega arith))
+
+  pub next-reach : s + 1 ≡ t → AllReach n us
+  next-reach last =
+      let place : 0 ≡ (t - 1) - s = omega arith in
+      let now : get_or plan 0 [] ≡ us = ap (λ z. get_or plan z []) place ∙ (read ∙ sym same) in
+      subst (AllReach n) now (is.last (omega arith))
