@@ -1,22 +1,19 @@
 -- Bounds of states: which there are, and what a bound is enough for.
-use Rattle.std.specs.Prelude.{◌≡◌, Contains, ℕ, zero, suc, ◌+◌, ◌<◌, ◌≤◌, Bool, true, false, ℤ, pos, ◌+ℤ◌, ◌-ℤ◌, ◌≤ℤ◌, ◌<ℤ◌, List, [], ◌∷◌, ◌++◌, length, map, unsigned_abs}
-use Rattle.std.specs.Int.{int_min, int_max}
-use Rattle.std.specs.List.{AllByRecursion, IsDistinct}
-use Rattle.std.proofs.Common.{refl, sym, ap, subst, ◌∙◌, inl, inr, arith, get_or, take}
+use Rattle.std.specs.Prelude.{◌≡◌, ℕ, zero, suc, ◌+◌, ◌<◌, ◌≤◌, ℤ, pos, ◌≤ℤ◌, List, [], ◌∷◌, ◌++◌, length, unsigned_abs}
+use Rattle.std.specs.List.{AllByRecursion}
+use Rattle.std.proofs.Common.{refl, sym, ap, subst, ◌∙◌, arith, get_or, take}
 use Rattle.std.proofs.lemmas.List.{get_or_default}
 use Rattle.std.proofs.Math.ListN.{set}
 use Rattle.std.proofs.lemmas.Int.{ints, clamps}
 use Rattle.tv_lemmas.proofs.Members.{all-onto, all-at}
 use Rattle.tv_laws_series.specs.Terms.{IsWithin}
 use Rattle.tv_spec_plane.specs.Web.{Web}
-use Rattle.tv_spec_boxes.specs.Assignments.{Rows, no_legs}
-use Rattle.tv_spec_boxes.specs.Numbers.{lowest}
+use Rattle.tv_spec_boxes.specs.Assignments.{Rows}
 use Rattle.tv_spec_series.specs.Families.{Family, without_rows}
-use Rattle.tv_laws_frontier.specs.Frontier.{kept_upto}
-use Rattle.tv_laws_frontier.specs.Steps.{states, options}
+use Rattle.tv_laws_frontier.specs.Steps.{states}
 use Rattle.tv_frontier.specs.Joining.{IsSpan, IsRange, IsStage}
 use Rattle.tv_frontier.specs.Rows.{HasShape, IsBound}
-use Rattle.tv_frontier.specs.Bounds.{uptos, Suffices, AllSuffice, AreBounds, AllReach}
+use Rattle.tv_frontier.specs.Bounds.{uptos, Suffices, AllSuffice, AllReach}
 use Rattle.tv_frontier.specs.Layers.{AllShaped, AreWithout}
 
 pub span-bound : (w : Web) (d : ℕ) (n low m : ℤ) → IsSpan w d n low m → IsBound w d n m

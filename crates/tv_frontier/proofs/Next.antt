@@ -6,7 +6,7 @@ use Rattle.std.specs.Int.{int_min}
 use Rattle.std.proofs.lemmas.Int.{ints, clamps}
 use Rattle.tv_lemmas.specs.Naturals.{as_natural}
 use Rattle.std.proofs.lemmas.List.{length-append, drop_all}
-use Rattle.tv_lemmas.proofs.Members.{all-onto, all-append}
+use Rattle.tv_lemmas.proofs.Members.{all-append}
 use Rattle.tv_ring.specs.Operations.{Operations, RingLaws}
 use Rattle.tv_spec_plane.specs.declared.records.CompactEdge.{CompactEdge}
 use Rattle.tv_spec_plane.specs.Graded.{IsGraded}
@@ -15,7 +15,7 @@ use Rattle.tv_degrees.specs.Grades.{IsHeighted}
 use Rattle.tv_assignment.specs.Listing.{degrees_of}
 use Rattle.tv_spec_boxes.specs.Assignments.{Rows, Assignment, no_legs, choices, same_choice}
 use Rattle.tv_spec_boxes.specs.Numbers.{lowest}
-use Rattle.tv_spec_series.specs.Families.{Family, classes, without_rows}
+use Rattle.tv_spec_series.specs.Families.{Family, classes}
 use Rattle.tv_spec_partial.specs.Partial.{is_pending}
 use Rattle.tv_laws_counts.proofs.Assigned.{choices-once}
 use Rattle.tv_laws_counts.proofs.Degrees.{weights}

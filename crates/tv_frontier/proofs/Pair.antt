@@ -1,5 +1,5 @@
 -- One state and one choice on the new edges: what is computed of them is what the corner has.
-use Rattle.std.specs.Prelude.{◌≡◌, Contains, ℕ, zero, suc, ◌<◌, ◌≤◌, Bool, false, ℤ, pos, ◌≤ℤ◌, ◌<ℤ◌, List, [], ◌∷◌, ◌++◌, map, filter, length}
+use Rattle.std.specs.Prelude.{◌≡◌, Contains, ℕ, suc, ◌<◌, ◌≤◌, Bool, false, ℤ, pos, ◌≤ℤ◌, ◌<ℤ◌, List, [], ◌++◌, map, filter, length}
 use Rattle.std.specs.List.{AllByRecursion, IsDistinct}
 use Rattle.std.proofs.Common.{refl, sym, ap, subst, ◌∙◌, le_trans, get_or, inl, inr, arith}
 use Rattle.std.proofs.Math.ListN.{set}
@@ -85,9 +85,9 @@ module _ {A : Type 0} (IsValue : A → Type 0) (r : Operations A) (w : Web) (d :
 
   pub nowhere-stays : keys ≡ states w d (suc t) → GoesNowhere w d t h g → GrowsBy IsValue r w d n (suc t) (pair_addends w d n t h g us) keys parts parts
   nowhere-stays is nowhere = elim nowhere [
-      | inl great ↦ great-stays great
-      | inr absent ↦ absent-stays (after_of w t h g) refl (subst (λ (ks : List (List Rows)). AllByRecursion (λ k. same_choice (after_of w t h g) k ≡ false) ks) (sym is) absent)
-    ]
+    | inl great ↦ great-stays great
+    | inr absent ↦ absent-stays (after_of w t h g) refl (subst (λ (ks : List (List Rows)). AllByRecursion (λ k. same_choice (after_of w t h g) k ≡ false) ks) (sym is) absent)
+  ]
 
   module _ (p : ℕ) (x a b : List Rows) (f e : Family A) (within : p < length keys) (there : get_or keys p [] ≡ x) (is : x ≡ after_of w t h g) (at_part : get_or parts p f ≡ f) (first : a ≡ h) (new : b ≡ g) (most : degree_of w.heights (class_of w (near_part w t h g)) ≤ℤ pos d) where
     pub pair-grows : IsDistinct same_choice keys → KeepsRows IsValue r w d n t a b us f e → GrowsBy IsValue r w d n (suc t) (pair_addends w d n t h g us) keys parts (set parts p e)

@@ -1,5 +1,5 @@
 -- Bounds that are found on numbers alone: each is enough for the states after it.
-use Rattle.std.specs.Prelude.{◌≡◌, ◌⊎◌, Contains, ℕ, zero, suc, ◌+◌, ◌-◌, ◌<◌, ◌≤◌, Bool, true, false, ℤ, pos, negsuc, ◌+ℤ◌, ◌-ℤ◌, ◌≤ℤ◌, ◌<ℤ◌, List, [], ◌∷◌, ◌++◌, length, take, unsigned_abs}
+use Rattle.std.specs.Prelude.{◌≡◌, ◌⊎◌, Contains, ℕ, zero, suc, ◌+◌, ◌-◌, ◌<◌, ◌≤◌, true, false, ℤ, pos, negsuc, ◌+ℤ◌, ◌-ℤ◌, ◌≤ℤ◌, ◌<ℤ◌, List, [], ◌∷◌, ◌++◌, length, take, unsigned_abs}
 use Rattle.std.specs.Int.{int_min, int_max}
 use Rattle.std.specs.List.{AllByRecursion, IsDistinct}
 use Rattle.std.proofs.Common.{refl, sym, ap, subst, ◌∙◌, inl, inr, arith, get_or}
@@ -12,12 +12,11 @@ use Rattle.std.proofs.lemmas.Map.Keys.{apart_from_distinct}
 use Rattle.tv_lemmas.proofs.Members.{all-onto, all-append, all-at, all-contains}
 use Rattle.tv_spec_plane.specs.Web.{Web, degree_of}
 use Rattle.tv_spec_boxes.specs.Assignments.{Rows, no_legs, class_of, same_choice}
-use Rattle.tv_spec_boxes.specs.Numbers.{lowest}
 use Rattle.tv_laws_frontier.specs.Frontier.{kept_upto}
 use Rattle.tv_laws_frontier.specs.Steps.{states, options, near_part}
 use Rattle.tv_laws_frontier.proofs.Listed.{choice_equality}
 use Rattle.tv_laws_frontier.proofs.StateClasses.{end_states}
-use Rattle.tv_frontier.specs.Joining.{lowest_kept, IsSpan, Reaches}
+use Rattle.tv_frontier.specs.Joining.{IsSpan}
 use Rattle.tv_frontier.specs.Rows.{after_of, IsBound}
 use Rattle.tv_frontier.specs.Bounds.{shift_of, IsAfter, GoesNowhere, NeedsAtMost, Suffices, AllSuffice, AreBounds, AllReach, IsPlan}
 use Rattle.tv_frontier.proofs.Least.{lowest-low}
@@ -35,12 +34,12 @@ not-twice keys p q x distinct before within at_p at_q =
 -- a choice stands at one place
 one-place : (keys : List (List Rows)) (p q : ℕ) (x : List Rows) → IsDistinct same_choice keys → p < length keys → q < length keys → get_or keys p [] ≡ x → get_or keys q [] ≡ x → p ≡ q
 one-place keys p q x distinct first second at_p at_q = elim (cases_order p q) [
-    | inl same ↦ same
-    | inr other ↦ elim other [
-      | inl before ↦ absurd (not-twice keys p q x distinct before second at_p at_q)
-      | inr after ↦ absurd (not-twice keys q p x distinct after first at_q at_p)
-    ]
+  | inl same ↦ same
+  | inr other ↦ elim other [
+    | inl before ↦ absurd (not-twice keys p q x distinct before second at_p at_q)
+    | inr after ↦ absurd (not-twice keys q p x distinct after first at_q at_p)
   ]
+]
 
 at-most : (x y s k b : ℤ) → x ≡ y → k ≡ s → b ≡ y -ℤ k → (x -ℤ s) ≤ℤ b
 at-most x y s k b same shift is = omega (arith, ints)
@@ -59,9 +58,9 @@ module _ (w : Web) (d t : ℕ) (next : List ℤ) (h : List Rows) where
 
   pub needs-none : (g : List Rows) (b : ℤ) → GoesNowhere w d t h g → NeedsAtMost w d t next h b g
   needs-none g b nowhere q there = absurd (elim nowhere [
-      | inl great ↦ not-both (pos d) (degree_of w.heights (class_of w (near_part w t h g))) great there.within
-      | inr absent ↦ none-there absent
-    ])
+    | inl great ↦ not-both (pos d) (degree_of w.heights (class_of w (near_part w t h g))) great there.within
+    | inr absent ↦ none-there absent
+  ])
     where
       none-there : AllByRecursion (λ (k : List Rows). same_choice (after_of w t h g) k ≡ false) (states w d (suc t)) → ⊥
       none-there absent =
@@ -88,9 +87,9 @@ module _ (w : Web) (d t : ℕ) (next : List ℤ) (h : List Rows) where
 
   pub suffices-all : (n m b c : ℤ) (gs : List (List Rows)) → gs ≡ options w d t → m ≡ kept_upto w (no_legs w) d n → c ≡ int_min b m → AllByRecursion (NeedsAtMost w d t next h b) gs → Suffices w d n t next h c
   suffices-all n m b c gs listed last is all g p among after = elim (lesser-of b m c is) [
-      | inl whole ↦ inl (whole ∙ last)
-      | inr most ↦ inr (below-both (get_or next p (pos 0)) (shift_of w t h g) b c (needs p after) most)
-    ]
+    | inl whole ↦ inl (whole ∙ last)
+    | inr most ↦ inr (below-both (get_or next p (pos 0)) (shift_of w t h g) b c (needs p after) most)
+  ]
     where
       needs : NeedsAtMost w d t next h b g
       needs = all-contains (NeedsAtMost w d t next h b) gs g all (subst (λ (zs : List (List Rows)). Contains zs g) (sym listed) among)
@@ -105,9 +104,9 @@ next-small w d n low m t next p span corner bounds within =
 pub suffice-next : (w : Web) (d : ℕ) (n : ℤ) (t : ℕ) (next : List ℤ) (keys : List (List Rows)) (bs cs : List ℤ) (k : ℕ) (h : List Rows) (b : ℤ) → cs ≡ bs ++ b ∷ [] → length bs ≡ k → get_or keys k [] ≡ h → Suffices w d n t next h b →
     ((q : ℕ) → q < k → Suffices w d n t next (get_or keys q []) (get_or bs q (pos 0))) → (q : ℕ) → q < k + 1 → Suffices w d n t next (get_or keys q []) (get_or cs q (pos 0))
 suffice-next w d n t next keys bs cs k h b pushed long read here all q within = elim (cases_lt q k) [
-    | inl before ↦ early before
-    | inr past ↦ late (omega arith)
-  ]
+  | inl before ↦ early before
+  | inr past ↦ late (omega arith)
+]
   where
     early : q < k → Suffices w d n t next (get_or keys q []) (get_or cs q (pos 0))
     early before =
@@ -168,9 +167,9 @@ module _ (w : Web) (d : ℕ) (n : ℤ) (t s k : ℕ) (old new : List (List ℤ))
 
   each-next : (u j : ℕ) → u + j ≡ t → j < k + 1 → AreBounds w d n u (get_or new j [])
   each-next u j e within = elim (cases_lt j k) [
-      | inl before ↦ subst (AreBounds w d n u) (at-old j before) (plan.each u j e before)
-      | inr past ↦ late (omega arith)
-    ]
+    | inl before ↦ subst (AreBounds w d n u) (at-old j before) (plan.each u j e before)
+    | inr past ↦ late (omega arith)
+  ]
     where
       late : j ≡ k → AreBounds w d n u (get_or new j [])
       late last =
@@ -179,9 +178,9 @@ module _ (w : Web) (d : ℕ) (n : ℤ) (t s k : ℕ) (old new : List (List ℤ))
 
   steps-next : (u j : ℕ) → u + suc j ≡ t → suc j < k + 1 → AllSuffice w d n u (get_or new j []) (get_or new (suc j) [])
   steps-next u j e within = elim (cases_lt (suc j) k) [
-      | inl before ↦ early before
-      | inr past ↦ late (omega arith)
-    ]
+    | inl before ↦ early before
+    | inr past ↦ late (omega arith)
+  ]
     where
       P : List ℤ → Type 0
       P z = AllSuffice w d n u z (get_or new (suc j) [])

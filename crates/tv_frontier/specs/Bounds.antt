@@ -13,7 +13,7 @@
 -- AllReach n bs        == each bound is n at least
 -- IsPlan w d n t k plan == bounds for the states after t corners, which are n at least, and then for those after t - 1, t - 2, .. of
 --                         them, k lists in all, each enough for the list before it
-use Rattle.std.specs.Prelude.{◌≡◌, ◌⊎◌, Contains, ℕ, zero, suc, ◌+◌, ◌<◌, ℤ, pos, ◌-ℤ◌, ◌≤ℤ◌, ◌<ℤ◌, List, [], length, map, false, slice_index_or}
+use Rattle.std.specs.Prelude.{◌≡◌, ◌⊎◌, Contains, ℕ, suc, ◌+◌, ◌<◌, ℤ, pos, ◌-ℤ◌, ◌≤ℤ◌, ◌<ℤ◌, List, [], length, map, false, slice_index_or}
 use Rattle.std.specs.List.{AllByRecursion}
 use Rattle.tv_cells.specs.Costs.{overlap_cost}
 use Rattle.tv_spec_plane.specs.Web.{Web, degree_of}

@@ -1,5 +1,5 @@
 use Rattle.std.proofs.Common.{sym, ap, subst, suc, ◌∙◌, length, arith}
-use Rattle.std.specs.Prelude.{◌≡◌, pos, List}
+use Rattle.std.specs.Prelude.{◌≡◌, List}
 use Rattle.tv_spec_series.specs.Families.{Family}
 use Rattle.tv_assigned_series.specs.FamilyFaults.{IsCrowded}
 use Rattle.tv_frontier.specs.Bounds.{uptos}

@@ -1,4 +1,4 @@
-use Rattle.std.proofs.Common.{◌≡◌, ◌+◌, ◌-◌, ◌<◌, suc, ℕ, sym, ap, subst, ◌∙◌, length, get_or, arith, w64, to_z, of_z}
+use Rattle.std.proofs.Common.{◌≡◌, ◌-◌, ◌<◌, suc, ℕ, sym, ap, subst, ◌∙◌, length, get_or, arith, w64, to_z, of_z}
 use Rattle.std.specs.Prelude.{[], ◌∷◌, ◌++◌, List, ℤ}
 use Rattle.std.proofs.lemmas.Int.{ints}
 use Rattle.std.proofs.lemmas.List.{get_or_default}
