@@ -24,11 +24,12 @@ use Rattle.tv_laws_frontier.specs.StateClasses.{HasClass}
 use Rattle.tv_laws_frontier.proofs.First.{nothing-listed, nothing-class, of-nothing, is-nothing, first_state}
 use Rattle.tv_frontier.specs.Joining.{IsSpan, moved_terms}
 use Rattle.tv_frontier.specs.Sums.{Addend, added_up, StartsAt, Holds}
-use Rattle.tv_frontier.specs.Rows.{IsPart}
+use Rattle.tv_frontier.specs.Rows.{IsBound, IsPart}
 use Rattle.tv_frontier.proofs.Classes.{class-listed, class-place}
 use Rattle.tv_frontier.proofs.Held.{holds-none, holds-more}
 use Rattle.tv_frontier.proofs.Joined.{moved-known, moved-floor, moved-read}
 use Rattle.tv_frontier.proofs.Layered.{state-on}
+use Rattle.tv_frontier.proofs.Bounded.{span-bound}
 use Rattle.tv_frontier.proofs.Least.{lowest-low}
 
 abbrev one_at : ℤ → ℤ → ℕ
@@ -119,12 +120,12 @@ module _ {A : Type 0} {IsValue : A → Type 0} {r : Operations A} (laws : RingLa
       subst (λ (z : Family A). Holds IsValue r w.heights (pos d) m floor (HasClass w d 0 []) (addend ∷ []) z) (sym added_is) (holds-more laws w.heights (pos d) m floor (HasClass w d 0 []) [] addend s (without_rows w.heights (pos d) m) (holds-none laws w.heights (pos d) m floor (HasClass w d 0 []) (let l = span.small_upto in omega (arith, ints))) (first-addend series)
       (λ i within. rw is (first-number laws floor m low i within)) (zero-there w d graded v zero_class) (rw is (moved-floor r floor m (terms (pos 0) (r.unit ∷ [])) (pos 0))) span.rises) in
       record {
-        shape = record { heights = held.heights; top = held.top; upto = held.upto ∙ span.upto };
+        shape = record { heights = held.heights; top = held.top; bound = subst (IsBound w d n) (sym held.upto) (span-bound w d n floor m span) };
         family = held.family;
         each = held.each;
         whole = λ u has. subst (Contains (classes f.rows)) (zero-only w d graded v u zero_class has) held.whole.0;
         low = subst (λ (z : ℤ). AllByRecursion (StartsAt z) f.rows) span.floor held.low;
-        numbers = λ u i within most. held.numbers u i (rw span.upto within) ∙ (ap (whole_times r) (sum-one u i) ∙ (whole_times-pos r (state_number w (no_legs w) d m 0 [] u i) ∙ ap (λ z. times r (state_number w (no_legs w) d z 0 [] u i)) span.upto));
+        numbers = λ u i within most. held.numbers u i (let e = held.upto in omega (arith, ints)) ∙ (ap (whole_times r) (sum-one u i) ∙ (whole_times-pos r (state_number w (no_legs w) d m 0 [] u i) ∙ ap (λ z. times r (state_number w (no_legs w) d z 0 [] u i)) span.upto));
       }
 
 -- what is written

@@ -146,7 +146,7 @@ natural-most : (z : ℤ) (k : ℕ) → pos k ≤ℤ z → k ≤ as_natural z
 natural-most (pos n) k h = omega (arith, ints)
 natural-most (negsuc n) k h = absurd (omega (arith, ints))
 
-module _ {A : Type 0} {IsValue : A → Type 0} {r : Operations A} (laws : RingLaws IsValue r) {w : Web} {d : ℕ} {n floor m : ℤ} {t : ℕ} {h g : List Rows} {legs : Legs} {class near : List ℤ} {shift : ℤ} (graded : IsGraded w) (stage : IsStage w d n floor m t) (join : IsJoin w d t h g legs class near shift) (v u : List ℤ) (s : Terms A) (most : degree_of w.heights v ≤ℤ pos d) (left : class_difference v class ≡ u) (of : IsOfState r w d n t h u s) where
+module _ {A : Type 0} {IsValue : A → Type 0} {r : Operations A} (laws : RingLaws IsValue r) {w : Web} {d : ℕ} {n floor m : ℤ} {t : ℕ} {h g : List Rows} {legs : Legs} {class near : List ℤ} {shift : ℤ} (graded : IsGraded w) (stage : IsStage w d n floor m t) (join : IsJoin w d t h g legs class near shift) (v u : List ℤ) (s : Terms A) (most : degree_of w.heights v ≤ℤ pos d) (left : class_difference v class ≡ u) (of : IsOfState r w d n t h u (m -ℤ shift) s) where
   abbrev lowest_at : ℤ
   lowest_at = lowest w (no_legs w) d
 
@@ -195,7 +195,7 @@ module _ {A : Type 0} {IsValue : A → Type 0} {r : Operations A} (laws : RingLa
   none-at : (i : ℤ) → i ≤ℤ m → i <ℤ start → times r (number (i -ℤ shift)) ≡ r.nought
   none-at i l below = elim (moved-below r floor m s shift i l below) [
     | inl low ↦ (let e = stage.floor in ap (times r) (none-before i l (omega (arith, ints, clamps))) ∙ times-none r)
-    | inr low ↦ sym (of (i -ℤ shift)) ∙ coefficient_below r s (i -ℤ shift) low
+    | inr low ↦ sym (of (i -ℤ shift) (omega (arith, ints))) ∙ coefficient_below r s (i -ℤ shift) low
   ]
 
   none-term : (i : ℤ) (j : ℕ) → i ≤ℤ m → (i -ℤ pos j) <ℤ start → times r (factor i j) ≡ r.nought
@@ -258,7 +258,7 @@ module _ {A : Type 0} {IsValue : A → Type 0} {r : Operations A} (laws : RingLa
     moved-at : (q : ℕ) → q ≤ k → at r moved.coefficients q ≡ times r (counted q)
     moved-at q l =
         let a = above_is start (m +ℤ pos 1) in
-        moved-coefficient r floor m s shift q (omega (arith, ints)) ∙ of ((start +ℤ pos q) -ℤ shift)
+        moved-coefficient r floor m s shift q (omega (arith, ints)) ∙ of ((start +ℤ pos q) -ℤ shift) (omega (arith, ints))
 
     split-at : (i : ℤ) (p q : ℕ) → i ≡ start +ℤ pos p → q ≤ p → split (count legs) counted p q ≡ factor i q
     split-at i p q e l = split_is (count legs) counted p q ∙ ap (λ z. count legs q * number z) (term-place start i shift p q e l)
@@ -295,7 +295,7 @@ module _ {A : Type 0} {IsValue : A → Type 0} {r : Operations A} (laws : RingLa
             ∙ (at-listed r (convolution r (at r b.coefficients) (at r moved.coefficients)) (min (length b.coefficients) (length moved.coefficients)) p (omega (arith, ints))
             ∙ product-at i p (omega (arith, ints)) (omega (arith, ints))))
 
-    product-joined : IsJoined r w d n t h g v product
+    product-joined : IsJoined r w d n t h g v m product
     product-joined =
         let low = product-low in let l = length-product in let e = stage.upto in let f = stage.floor in
         let floor_is = moved-floor r floor m s shift in
@@ -334,7 +334,7 @@ module _ {A : Type 0} {IsValue : A → Type 0} {r : Operations A} (laws : RingLa
 
   -- ---- nothing stands through the greatest exponent kept
 
-  empty-joined : m <ℤ start → IsJoined r w d n t h g v (moved_terms r floor m s shift)
+  empty-joined : m <ℤ start → IsJoined r w d n t h g v m (moved_terms r floor m s shift)
   empty-joined none =
       let e = stage.upto in let f = stage.floor in
       let floor_is = moved-floor r floor m s shift in
@@ -358,7 +358,7 @@ module _ {A : Type 0} {IsValue : A → Type 0} {r : Operations A} (laws : RingLa
         let low = starts in let f = stage.small_low in let e = stage.small_upto in let o = stage.rises in
         omega (arith, ints, clamps)
 
-    pub moved-joined : m <ℤ a.low → IsJoined r w d n t h g v a
+    pub moved-joined : m <ℤ a.low → IsJoined r w d n t h g v m a
     moved-joined past = let low = starts in rw is (empty-joined (omega (arith, ints)))
 
     module _ (k : ℕ) (long : a.low +ℤ pos k ≡ m) where
@@ -372,7 +372,7 @@ module _ {A : Type 0} {IsValue : A → Type 0} {r : Operations A} (laws : RingLa
         pub mul-within : unsigned_abs (product_upto b a) ≤ 2 ^ 60
         mul-within = rw is (product-within k corner.0 b to-end corner.1 corner.2)
 
-        pub mul-joined : (p : Terms A) → p ≡ series_product r b a → IsJoined r w d n t h g v p
+        pub mul-joined : (p : Terms A) → p ≡ series_product r b a → IsJoined r w d n t h g v m p
         mul-joined p e = rw (e, is) (product-joined k corner.0 b to-end corner.1 corner.2)
 
         pub mul-reaches : SizeLaws IsValue r → ReachesAddUp r b.coefficients a.coefficients

@@ -30,8 +30,8 @@ use Rattle.tv_laws_frontier.proofs.StateClasses.{classes_step}
 use Rattle.tv_laws_frontier.proofs.Step.{step_of_state}
 use Rattle.tv_frontier.specs.Joining.{lowest_kept, join_number}
 use Rattle.tv_frontier.specs.Sums.{Addend, added_up}
-use Rattle.tv_frontier.specs.Rows.{after_of, target, addend_of, row_addends, sizes_up, HasRoom, Holding, IsPart}
-use Rattle.tv_frontier.specs.Layers.{AllHold, pair_addends, state_addends, classed, layer_addends, AreParts}
+use Rattle.tv_frontier.specs.Rows.{after_of, target, addend_of, row_addends, sizes_up, HasRoom, IsBound, Holding, IsPart}
+use Rattle.tv_frontier.specs.Layers.{AllHold, AllShaped, AreWithout, pair_addends, state_addends, classed, layer_addends, AreParts}
 use Rattle.tv_frontier.proofs.Classes.{class-listed, class-place}
 use Rattle.tv_frontier.proofs.Exact.{rows-joined, plus-difference}
 use Rattle.tv_frontier.proofs.Held.{holds-none}
@@ -278,29 +278,36 @@ module _ {A : Type 0} (IsValue : A → Type 0) (r : Operations A) (w : Web) (d :
 -- ---- the families after the corner
 
 module _ {A : Type 0} {IsValue : A → Type 0} {r : Operations A} (laws : RingLaws IsValue r) (w : Web) (d : ℕ) (n : ℤ) (t : ℕ) (gs : List (List Rows)) (graded : IsGraded w) (heighted : IsHeighted w) (corner : t < length w.triangles) (listed : gs ≡ options w d t) (keys : List (List Rows)) (parts : List (Family A)) (is : keys ≡ states w d t) (are : AreParts IsValue r w d n t keys parts) where
-  part-after : (k : List Rows) (f : Family A) → Holding IsValue r w d n (suc t) k (layer_addends w d n t gs (classed keys parts) k) f → IsPart IsValue r w d n (suc t) k f
-  part-after k f held = record {
-    shape = record { heights = held.heights; top = held.top; upto = held.upto };
+  part-after : (k : List Rows) (f : Family A) → IsBound w d n f.upto → Holding IsValue r w d n (suc t) k (layer_addends w d n t gs (classed keys parts) k) f → IsPart IsValue r w d n (suc t) k f
+  part-after k f bound held = record {
+    shape = record { heights = held.heights; top = held.top; bound = bound };
     family = held.family;
     each = held.each;
     whole = class-there IsValue r w d n t gs k graded corner listed (Contains (classes f.rows)) keys parts heighted is are held.whole;
     low = held.low;
-    numbers = λ v i within most. held.numbers v i within ∙ (ap (whole_times r) (layer-numbers IsValue r w d n t gs k graded corner listed v i most within keys parts is are) ∙ whole_times-pos r (state_number w (no_legs w) d (kept_upto w (no_legs w) d n) (suc t) k v i));
+    numbers = λ v i within most. held.numbers v i within ∙ (ap (whole_times r) (layer-numbers IsValue r w d n t gs k graded corner listed v i most (let l = bound.last in omega (arith, ints)) keys parts is are) ∙ whole_times-pos r (state_number w (no_legs w) d (kept_upto w (no_legs w) d n) (suc t) k v i));
   }
 
-  pub parts-after : (ks : List (List Rows)) (fs : List (Family A)) → AllHold IsValue r w d n (suc t) (λ k. layer_addends w d n t gs (classed keys parts) k) ks fs → AreParts IsValue r w d n (suc t) ks fs
-  parts-after [] [] held = tt
-  parts-after (k ∷ ks) [] held = absurd held
-  parts-after [] (f ∷ fs) held = absurd held
-  parts-after (k ∷ ks) (f ∷ fs) held = (part-after k f held.0, parts-after ks fs held.1)
+  pub parts-after : (ks : List (List Rows)) (bs : List ℤ) (fs : List (Family A)) → AllByRecursion (IsBound w d n) bs → AllShaped w d bs fs → AllHold IsValue r w d n (suc t) (λ k. layer_addends w d n t gs (classed keys parts) k) ks fs → AreParts IsValue r w d n (suc t) ks fs
+  parts-after [] bs [] bounded shaped held = tt
+  parts-after (k ∷ ks) bs [] bounded shaped held = absurd held
+  parts-after [] bs (f ∷ fs) bounded shaped held = absurd held
+  parts-after (k ∷ ks) [] (f ∷ fs) bounded shaped held = absurd shaped
+  parts-after (k ∷ ks) (b ∷ bs) (f ∷ fs) bounded shaped held = (part-after k f (subst (IsBound w d n) (sym shaped.0.upto) bounded.0) held.0, parts-after ks bs fs bounded.1 shaped.1 held.1)
 
   pub rooms-after : (ks : List (List Rows)) → AllByRecursion (λ (k : List Rows). HasRoom w d n (layer_addends w d n t gs (classed keys parts) k)) ks
   rooms-after ks = all-any (λ (k : List Rows). HasRoom w d n (layer_addends w d n t gs (classed keys parts) k)) (λ k. layer-room IsValue r w d n t gs k graded corner listed keys parts is are) ks
 
   -- before any state is joined the families hold nothing
-  pub none-held : (ks : List (List Rows)) (fs : List (Family A)) → length fs ≡ length ks → AllByRecursion (λ (f : Family A). f ≡ without_rows w.heights (pos d) (kept_upto w (no_legs w) d n)) fs → IsWithin (kept_upto w (no_legs w) d n) → AllHold IsValue r w d n (suc t) (λ k. []) ks fs
-  none-held [] [] long none within = tt
-  none-held (k ∷ ks) [] long none within = absurd (omega arith)
-  none-held [] (f ∷ fs) long none within = absurd (omega arith)
-  none-held (k ∷ ks) (f ∷ fs) long none within =
-      (subst (λ (z : Family A). Holding IsValue r w d n (suc t) k [] z) (sym none.0) (holds-none laws w.heights (pos d) (kept_upto w (no_legs w) d n) (lowest_kept w d n) (HasClass w d (suc t) k) within), none-held ks fs (omega arith) none.1 within)
+  none-holding : (k : List Rows) (b : ℤ) (f : Family A) → f ≡ without_rows w.heights (pos d) b → IsWithin b → Holding IsValue r w d n (suc t) k [] f
+  none-holding k b f none within =
+      let empty : Holding IsValue r w d n (suc t) k [] (without_rows w.heights (pos d) b) = holds-none laws w.heights (pos d) b (lowest_kept w d n) (HasClass w d (suc t) k) within in
+      subst (λ (z : Family A). Holding IsValue r w d n (suc t) k [] z) (sym none) empty
+
+  pub none-held : (ks : List (List Rows)) (bs : List ℤ) (fs : List (Family A)) → length bs ≡ length ks → AreWithout w d bs fs → AllByRecursion IsWithin bs → AllHold IsValue r w d n (suc t) (λ k. []) ks fs
+  none-held [] [] [] long none within = tt
+  none-held (k ∷ ks) [] fs long none within = absurd (omega arith)
+  none-held [] (b ∷ bs) fs long none within = absurd (omega arith)
+  none-held [] [] (f ∷ fs) long none within = absurd none
+  none-held (k ∷ ks) (b ∷ bs) [] long none within = absurd none
+  none-held (k ∷ ks) (b ∷ bs) (f ∷ fs) long none within = (none-holding k b f none.0 within.0, none-held ks bs fs (omega arith) none.1 within.1)

@@ -2,6 +2,7 @@ pub mod Joined
 pub mod Picked
 pub mod Least
 pub mod Held
+pub mod Bounded
 pub mod Classes
 pub mod RowAdded
 pub mod Exact
@@ -15,3 +16,4 @@ pub mod WithSigns
 pub mod Begun
 pub mod Listing
 pub mod Next
+pub mod Planned

@@ -6,7 +6,7 @@ use Rattle.std.specs.Int.{int_min}
 use Rattle.std.proofs.lemmas.Int.{ints, clamps}
 use Rattle.tv_lemmas.specs.Naturals.{as_natural}
 use Rattle.std.proofs.lemmas.List.{length-append, drop_all}
-use Rattle.tv_lemmas.proofs.Members.{all-onto, all-append}
+use Rattle.tv_lemmas.proofs.Members.{all-append}
 use Rattle.tv_ring.specs.Operations.{Operations, RingLaws}
 use Rattle.tv_spec_plane.specs.declared.records.CompactEdge.{CompactEdge}
 use Rattle.tv_spec_plane.specs.Graded.{IsGraded}
@@ -15,7 +15,7 @@ use Rattle.tv_degrees.specs.Grades.{IsHeighted}
 use Rattle.tv_assignment.specs.Listing.{degrees_of}
 use Rattle.tv_spec_boxes.specs.Assignments.{Rows, Assignment, no_legs, choices, same_choice}
 use Rattle.tv_spec_boxes.specs.Numbers.{lowest}
-use Rattle.tv_spec_series.specs.Families.{Family, classes, without_rows}
+use Rattle.tv_spec_series.specs.Families.{Family, classes}
 use Rattle.tv_spec_partial.specs.Partial.{is_pending}
 use Rattle.tv_laws_counts.proofs.Assigned.{choices-once}
 use Rattle.tv_laws_counts.proofs.Degrees.{weights}
@@ -25,8 +25,10 @@ use Rattle.tv_assigned_series.specs.FamilyFaults.{IsCrowded}
 use Rattle.tv_frontier.specs.Joining.{IsSpan, IsStage}
 use Rattle.tv_frontier.specs.Picks.{picks, put_by}
 use Rattle.tv_frontier.specs.Sums.{Addend}
-use Rattle.tv_frontier.specs.Rows.{HasShape, IsPart}
-use Rattle.tv_frontier.specs.Layers.{AllHold, AllShaped, classed, layer_addends, GrowsBy, CrowdedIn, AreParts, IsLayer, IsStep}
+use Rattle.tv_frontier.specs.Rows.{IsPart}
+use Rattle.tv_frontier.specs.Bounds.{AreBounds}
+use Rattle.tv_frontier.specs.Layers.{AllHold, AllShaped, AreWithout, classed, layer_addends, GrowsBy, CrowdedIn, AreParts, IsLayer, IsStep}
+use Rattle.tv_frontier.proofs.Bounded.{bounds-within}
 use Rattle.tv_frontier.proofs.Layered.{parts-after, rooms-after, none-held}
 use Rattle.tv_frontier.proofs.Near.{mapped-picks}
 use Rattle.tv_frontier.proofs.Spread.{put-by-is}
@@ -52,23 +54,11 @@ stage-of w d n low m t span corner = record {
   order = span.order;
   lowest = span.lowest;
   floor = span.floor;
-  upto = span.upto;
+  upto = (let e = span.upto in omega (arith, ints));
   rises = span.rises;
   small_low = span.small_low;
   small_upto = span.small_upto;
   corner = corner;
-}
-
-pub span-of : (w : Web) (d : ℕ) (n low m : ℤ) (t : ℕ) → IsStage w d n low m t → IsSpan w d n low m
-span-of w d n low m t stage = record {
-  degree = stage.degree;
-  order = stage.order;
-  lowest = stage.lowest;
-  floor = stage.floor;
-  upto = stage.upto;
-  rises = stage.rises;
-  small_low = stage.small_low;
-  small_upto = stage.small_upto;
 }
 
 -- one place more of a list
@@ -110,21 +100,17 @@ module _ {A : Type 0} (IsValue : A → Type 0) (r : Operations A) (w : Web) (d :
 
 -- ---- all states
 
-pub all-shaped : {A : Type 0} (w : Web) (d : ℕ) (m : ℤ) (fs : List (Family A)) → AllByRecursion (λ (f : Family A). f ≡ without_rows w.heights (pos d) m) fs → AllShaped w d m fs
-all-shaped w d m fs none = all-onto (λ (f : Family _). f ≡ without_rows w.heights (pos d) m) (HasShape w d m) (λ f is. record { heights = ap (λ z. z.heights) is; top = ap (λ z. z.top) is; upto = ap (λ z. z.upto) is }) fs none
-
-module _ {A : Type 0} {IsValue : A → Type 0} {r : Operations A} (laws : RingLaws IsValue r) {w : Web} {d : ℕ} {n floor m : ℤ} {t : ℕ} {pending fresh after : List Bool} {gs ks keys : List (List Rows)} {parts : List (Family A)} (graded : IsGraded w) (heighted : IsHeighted w) (stage : IsStage w d n floor m t) (step : IsStep w d t pending fresh after gs ks) (layer : IsLayer IsValue r w d n t keys parts) (olds : List (Family A)) (long : length olds ≡ length ks) (none : AllByRecursion (λ (f : Family A). f ≡ without_rows w.heights (pos d) m) olds) where
+module _ {A : Type 0} {IsValue : A → Type 0} {r : Operations A} (laws : RingLaws IsValue r) {w : Web} {d : ℕ} {n floor m : ℤ} {t : ℕ} {pending fresh after : List Bool} {gs ks keys : List (List Rows)} {parts : List (Family A)} (graded : IsGraded w) (heighted : IsHeighted w) (stage : IsStage w d n floor m t) (step : IsStep w d t pending fresh after gs ks) (layer : IsLayer IsValue r w d n t keys parts) (bs : List ℤ) (bounds : AreBounds w d n (suc t) bs) (olds : List (Family A)) (none : AreWithout w d bs olds) where
   abbrev adds : List Rows → List Addend
   adds k = layer_addends w d n t gs (classed keys parts) k
 
   held : AllHold IsValue r w d n (suc t) (λ k. []) ks olds
-  held = none-held laws w d n t gs graded heighted stage.corner step.options keys parts layer.keys layer.parts ks olds long
-      (subst (λ (z : ℤ). AllByRecursion (λ (f : Family A). f ≡ without_rows w.heights (pos d) z) olds) stage.upto none) (let u = stage.small_upto in let e = stage.upto in omega (arith, ints))
+  held = none-held laws w d n t gs graded heighted stage.corner step.options keys parts layer.keys layer.parts ks bs olds (bounds.one_each ∙ ap length (sym step.keys)) none (bounds-within w d n floor m t bs stage bounds.each)
 
-  pub layer-next : (news : List (Family A)) → GrowsBy IsValue r w d n (suc t) (layer_addends w d n t gs (classed keys parts)) ks olds news → IsLayer IsValue r w d n (suc t) ks news
-  layer-next news grows = record {
+  pub layer-next : (news : List (Family A)) → AllShaped w d bs news → GrowsBy IsValue r w d n (suc t) (layer_addends w d n t gs (classed keys parts)) ks olds news → IsLayer IsValue r w d n (suc t) ks news
+  layer-next news shaped grows = record {
     keys = step.keys;
-    parts = parts-after laws w d n t gs graded heighted stage.corner step.options keys parts layer.keys layer.parts ks news (grows (λ k. []) held);
+    parts = parts-after laws w d n t gs graded heighted stage.corner step.options keys parts layer.keys layer.parts ks bs news bounds.each shaped (grows (λ k. []) held);
   }
 
   pub layer-crowded : (v : List ℤ) → CrowdedIn IsValue r w d n (suc t) (layer_addends w d n t gs (classed keys parts)) ks olds v → IsCrowded r w d n v

@@ -1,7 +1,7 @@
 -- One state and one choice on the new edges: what is computed of them is what the corner has.
-use Rattle.std.specs.Prelude.{◌≡◌, Contains, ℕ, zero, suc, ◌<◌, ◌≤◌, Bool, false, ℤ, pos, ◌≤ℤ◌, ◌<ℤ◌, List, [], ◌∷◌, ◌++◌, map, filter, length}
+use Rattle.std.specs.Prelude.{◌≡◌, Contains, ℕ, suc, ◌<◌, ◌≤◌, Bool, false, ℤ, pos, ◌≤ℤ◌, ◌<ℤ◌, List, [], ◌++◌, map, filter, length}
 use Rattle.std.specs.List.{AllByRecursion, IsDistinct}
-use Rattle.std.proofs.Common.{sym, ap, subst, ◌∙◌, le_trans, get_or}
+use Rattle.std.proofs.Common.{refl, sym, ap, subst, ◌∙◌, le_trans, get_or, inl, inr, arith}
 use Rattle.std.proofs.Math.ListN.{set}
 use Rattle.tv_lemmas.specs.Sums.{plus}
 use Rattle.tv_lemmas.proofs.Members.{all-filter, all-contains, all-any, all-onto}
@@ -23,6 +23,7 @@ use Rattle.tv_assignment.proofs.Listed.{cells-few}
 use Rattle.tv_frontier.specs.Picks.{picks, put_by}
 use Rattle.tv_frontier.specs.Sums.{Addend}
 use Rattle.tv_frontier.specs.Rows.{after_of, HasRoom, Holding, KeepsRows, IsCrowdedBy}
+use Rattle.tv_frontier.specs.Bounds.{GoesNowhere, IsAfter}
 use Rattle.tv_frontier.specs.Layers.{pair_addends, GrowsBy, CrowdedIn}
 use Rattle.tv_frontier.proofs.Grown.{stays, grows, crowded-at, pair-none, pair-great, pair-here}
 use Rattle.tv_frontier.proofs.Classes.{class-small, sum-entries}
@@ -58,22 +59,35 @@ module _ (w : Web) (d t : ℕ) (h g : List Rows) (base added : Assignment) (c e 
       let few = spread-few w (map (is_pending t) (compact w)) h base (part ∙ put-by-is (is_pending t) (compact w) h (nothing (compact w))) (le_trans (state-few w d t h graded first) degree) in
       sum-entries c e (class-small w d c base coordinates rule few (sym class)) (new-small w d t g added graded degree new added-is coordinates rule e also)
 
--- ---- the families of the choices
+module _ (w : Web) (d t : ℕ) (h g : List Rows) where
+  pub absent-after : (ks : List (List Rows)) (x : List Rows) → ks ≡ states w d (suc t) → x ≡ after_of w t h g → AllByRecursion (λ k. same_choice x k ≡ false) ks → AllByRecursion (λ k. same_choice (after_of w t h g) k ≡ false) (states w d (suc t))
+  absent-after ks x is after absent =
+      subst (λ (zs : List (List Rows)). AllByRecursion (λ k. same_choice (after_of w t h g) k ≡ false) zs) is (subst (λ (z : List Rows). AllByRecursion (λ k. same_choice z k ≡ false) ks) after absent)
 
-pub all-set : {X : Type 0} (P : X → Type 0) (xs : List X) (p : ℕ) (x : X) → AllByRecursion P xs → P x → AllByRecursion P (set xs p x)
-all-set P [] p x all here = tt
-all-set P (y ∷ xs) zero x all here = (here, all.1)
-all-set P (y ∷ xs) (suc p) x all here = (all.0, all-set P xs p x all.1 here)
+  pub is-after : (ks : List (List Rows)) (p : ℕ) (x : List Rows) → ks ≡ states w d (suc t) → x ≡ after_of w t h g → degree_of w.heights (class_of w (near_part w t h g)) ≤ℤ pos d → p < length ks → get_or ks p [] ≡ x → IsAfter w d t h g p
+  is-after ks p x is after most within read = record {
+    within = most;
+    place = (let e = ap length is in omega arith);
+    choice = ap (λ zs. get_or zs p []) (sym is) ∙ (read ∙ after);
+  }
+
+-- ---- the families of the choices
 
 module _ {A : Type 0} (IsValue : A → Type 0) (r : Operations A) (w : Web) (d : ℕ) (n : ℤ) (t : ℕ) (h g : List Rows) (us : List (List ℤ)) (keys : List (List Rows)) (parts : List (Family A)) where
   abbrev adds : List Rows → List Addend
   adds = pair_addends w d n t h g us
 
-  pub great-stays : pos d <ℤ degree_of w.heights (class_of w (near_part w t h g)) → GrowsBy IsValue r w d n (suc t) (pair_addends w d n t h g us) keys parts parts
+  great-stays : pos d <ℤ degree_of w.heights (class_of w (near_part w t h g)) → GrowsBy IsValue r w d n (suc t) (pair_addends w d n t h g us) keys parts parts
   great-stays great = stays IsValue r w d n (suc t) adds keys parts (all-any (λ (k : List Rows). adds k ≡ []) (λ k. pair-great w d n t h g us k great) keys)
 
-  pub absent-stays : (x : List Rows) → x ≡ after_of w t h g → AllByRecursion (λ k. same_choice x k ≡ false) keys → GrowsBy IsValue r w d n (suc t) (pair_addends w d n t h g us) keys parts parts
+  absent-stays : (x : List Rows) → x ≡ after_of w t h g → AllByRecursion (λ k. same_choice x k ≡ false) keys → GrowsBy IsValue r w d n (suc t) (pair_addends w d n t h g us) keys parts parts
   absent-stays x is absent = stays IsValue r w d n (suc t) adds keys parts (all-onto (λ k. same_choice x k ≡ false) (λ (k : List Rows). adds k ≡ []) (λ k off. pair-none w d n t h g us k (ap (λ y. same_choice y k) (sym is) ∙ off)) keys absent)
+
+  pub nowhere-stays : keys ≡ states w d (suc t) → GoesNowhere w d t h g → GrowsBy IsValue r w d n (suc t) (pair_addends w d n t h g us) keys parts parts
+  nowhere-stays is nowhere = elim nowhere [
+    | inl great ↦ great-stays great
+    | inr absent ↦ absent-stays (after_of w t h g) refl (subst (λ (ks : List (List Rows)). AllByRecursion (λ k. same_choice (after_of w t h g) k ≡ false) ks) (sym is) absent)
+  ]
 
   module _ (p : ℕ) (x a b : List Rows) (f e : Family A) (within : p < length keys) (there : get_or keys p [] ≡ x) (is : x ≡ after_of w t h g) (at_part : get_or parts p f ≡ f) (first : a ≡ h) (new : b ≡ g) (most : degree_of w.heights (class_of w (near_part w t h g)) ≤ℤ pos d) where
     pub pair-grows : IsDistinct same_choice keys → KeepsRows IsValue r w d n t a b us f e → GrowsBy IsValue r w d n (suc t) (pair_addends w d n t h g us) keys parts (set parts p e)

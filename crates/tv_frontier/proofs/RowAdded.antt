@@ -1,7 +1,7 @@
 -- One class of a state joined and added to the family of the choice after the corner.
 use Rattle.std.specs.Prelude.{◌≡◌, Contains, ℕ, zero, suc, ◌+◌, ◌*◌, ◌<◌, ◌≤◌, min, Bool, true, false, cond, int_le, ℤ, pos, ◌+ℤ◌, ◌≤ℤ◌, ◌<ℤ◌, ◌-ℤ◌, negsuc, take, Some, slice_get, List, [], ◌∷◌, ◌++◌, length, unsigned_abs}
 use Rattle.std.specs.Int.{int_min}
-use Rattle.std.proofs.Common.{refl, sym, ap, subst, ◌∙◌, inl, arith, le_trans, append-nil, append_assoc, add-mul}
+use Rattle.std.proofs.Common.{refl, sym, ap, subst, ◌∙◌, inl, inr, arith, le_trans, append-nil, append_assoc, add-mul}
 use Rattle.std.proofs.Math.Nat.{mul-le-mul}
 use Rattle.std.proofs.lemmas.Int.{ints, clamps}
 use Rattle.tv_lemmas.specs.Sums.{plus}
@@ -38,7 +38,7 @@ use Rattle.tv_laws_frontier.specs.Steps.{new_part}
 use Rattle.tv_laws_frontier.specs.StateClasses.{HasClass}
 use Rattle.tv_laws_frontier.proofs.StateClasses.{classes_step}
 use Rattle.tv_assigned_series.specs.FamilyFaults.{IsCrowded}
-use Rattle.tv_frontier.specs.Joining.{lowest_kept, IsStage, IsJoin, IsOfState, join_number, IsJoined}
+use Rattle.tv_frontier.specs.Joining.{lowest_kept, IsStage, IsJoin, Reaches, IsOfState, join_number, IsJoined}
 use Rattle.tv_frontier.specs.Sums.{Addend, added_up}
 use Rattle.tv_frontier.specs.Rows.{after_of, target, addend_of, row_addends, sizes_up, HasRoom, HasShape, Holding, KeepsRows, IsCrowdedBy, IsPart}
 use Rattle.tv_frontier.proofs.Classes.{class-listed, class-small, sum-entries, class-place, difference-plus}
@@ -128,12 +128,12 @@ module _ {A : Type 0} {IsValue : A → Type 0} {r : Operations A} (laws : RingLa
         let none : row_addends w d n t h g (u ∷ []) ≡ [] = row-none w d n t h g u (subst (λ (z : List ℤ). pos d <ℤ degree_of w.heights z) goes-to great) in
         subst (λ (x : List Addend). Holding IsValue r w d n (suc t) (after_of w t h g) x f) (sym (ap (λ x. front ++ x) none ∙ append-nil front)) held
 
-    module _ (most : degree_of w.heights v ≤ℤ pos d) (s : Terms A) (joined : IsJoined r w d n t h g v s) (f : Family A) (shape : HasShape w d m f) where
+    module _ (most : degree_of w.heights v ≤ℤ pos d) (s : Terms A) (joined : IsJoined r w d n t h g v m s) (f : Family A) (shape : HasShape w d m f) where
       one-addend : row_addends w d n t h g (u ∷ []) ≡ addend_of w d n t h g v ∷ []
       one-addend = row-one w d n t h g u (subst (λ (z : List ℤ). degree_of w.heights z ≤ℤ pos d) goes-to most) ∙ ap (λ z. addend_of w d n t h g z ∷ []) (sym goes-to)
 
       pub known-far : f.upto ≤ℤ upto s
-      known-far = let e = shape.upto in let k = stage.upto in let l = joined.known in omega (arith, ints)
+      known-far = let e = shape.upto in let l = joined.known in omega (arith, ints)
 
       pub row-place : HasPlace f.heights f.top v
       row-place = rw (shape.heights, shape.top) (class-place w d (suc t) (after_of w t h g) v graded heighted (has-target most))
@@ -141,12 +141,12 @@ module _ {A : Type 0} {IsValue : A → Type 0} {r : Operations A} (laws : RingLa
       is-addend : IsSeries IsValue r s → IsAddend IsValue r f v s
       is-addend series = record { place = row-place; known = known-far; series = series }
 
-      number-is : (i : ℤ) → i ≤ℤ kept_upto w (no_legs w) d n → coefficient r s i ≡ whole_times r (pos (join_number w d n t h g v i))
-      number-is i within = joined.numbers i within ∙ sym (whole_times-pos r (join_number w d n t h g v i))
+      number-is : (i : ℤ) → i ≤ℤ f.upto → coefficient r s i ≡ whole_times r (pos (join_number w d n t h g v i))
+      number-is i within = joined.numbers i (let e = shape.upto in omega (arith, ints)) ∙ sym (whole_times-pos r (join_number w d n t h g v i))
 
       pub row-held : (e : Family A) (front : List Addend) → IsSeries IsValue r s → e ≡ added r v s f → Holding IsValue r w d n (suc t) (after_of w t h g) front f → Holding IsValue r w d n (suc t) (after_of w t h g) (front ++ row_addends w d n t h g (u ∷ [])) e
       row-held e front series is held =
-          rw (is, one-addend) (holds-more laws w.heights (pos d) (kept_upto w (no_legs w) d n) (lowest_kept w d n) (HasClass w d (suc t) (after_of w t h g)) front (addend_of w d n t h g v) s f held (is-addend series) number-is (has-target most) joined.low (omega (arith, ints, clamps)))
+          rw (is, one-addend) (holds-more laws w.heights (pos d) f.upto (lowest_kept w d n) (HasClass w d (suc t) (after_of w t h g)) front (addend_of w d n t h g v) s f held (is-addend series) number-is (has-target most) joined.low (let e = shape.upto in let l = stage.floor in let k = stage.rises in omega (arith, ints)))
 
       pub row-crowded : SizeLaws IsValue r → (front : List Addend) (i : ℤ) → Holding IsValue r w d n (suc t) (after_of w t h g) front f → HasRoom w d n (front ++ row_addends w d n t h g (u ∷ [])) → IsAddedWide r v s f i → IsCrowded r w d n v
       row-crowded sizes front i held room wide =
@@ -155,13 +155,13 @@ module _ {A : Type 0} {IsValue : A → Type 0} {r : Operations A} (laws : RingLa
           let second : low ≤ℤ s.low = omega (arith, ints, clamps) in
           let in_sum : p < min (known low x) (known low s) = wide.wide.within in
           let there_row : IsRow IsValue r f.heights f.top f.upto wide.row = found_all (IsRow IsValue r f.heights f.top f.upto) v f.rows wide.row held.family.rows wide.found in
-          let last : upto x ≡ kept_upto w (no_legs w) d n = there_row.known ∙ held.upto in
-          let within : i ≤ℤ kept_upto w (no_legs w) d n = place-known low i (kept_upto w (no_legs w) d n) p x first (omega arith) last wide.wide.exponent in
+          let through : i ≤ℤ f.upto = place-known low i f.upto p x first (omega arith) there_row.known wide.wide.exponent in
+          let within : i ≤ℤ kept_upto w (no_legs w) d n = (let e = shape.upto in let k = stage.upto in omega (arith, ints)) in
           let here : coefficient r s i ≡ from r low s p = ap (coefficient r s) wide.wide.exponent ∙ coefficient-from r low s p second in
           let there : coefficient_of r f v i ≡ from r low x p = ap (series_coefficient r i) wide.found ∙ (ap (coefficient r x) wide.wide.exponent ∙ coefficient-from r low x p first) in
           let both : limit < r.size (coefficient_of r f v i) + r.size (coefficient r s i) = rw (there, here, ← sum_size_is r (from r low x) (from r low s) p) wide.wide.wide in
-          let held_size : r.size (coefficient_of r f v i) ≤ sizes_up front v i * r.size r.unit = size-within laws sizes (added_up front v i) (coefficient_of r f v i) (sizes_up front v i) (held.numbers v i within) (added-size front v i) in
-          let row_size : r.size (coefficient r s i) ≤ join_number w d n t h g v i * r.size r.unit = size-within laws sizes (pos (join_number w d n t h g v i)) (coefficient r s i) (join_number w d n t h g v i) (number-is i within) (omega arith) in
+          let held_size : r.size (coefficient_of r f v i) ≤ sizes_up front v i * r.size r.unit = size-within laws sizes (added_up front v i) (coefficient_of r f v i) (sizes_up front v i) (held.numbers v i through) (added-size front v i) in
+          let row_size : r.size (coefficient r s i) ≤ join_number w d n t h g v i * r.size r.unit = size-within laws sizes (pos (join_number w d n t h g v i)) (coefficient r s i) (join_number w d n t h g v i) (number-is i through) (omega arith) in
           let parts : sizes_up (front ++ row_addends w d n t h g (u ∷ [])) v i ≡ sizes_up front v i + join_number w d n t h g v i =
           ap (λ z. sizes_up (front ++ z) v i) one-addend ∙ (sizes-append front (addend_of w d n t h g v) v i ∙ ap (λ b. sizes_up front v i + cond b (join_number w d n t h g v i) 0) (same_vector-same v)) in
           let most_all = room v i most within in
@@ -202,25 +202,30 @@ module _ {A : Type 0} (IsValue : A → Type 0) (r : Operations A) (w : Web) (d :
       let fits = room-front w d n (front ++ row_addends w d n t h g (us ++ u ∷ [])) (row_addends w d n t h g later) (subst (HasRoom w d n) whole room) in
       one (front ++ row_addends w d n t h g us) (before front held) (subst (HasRoom w d n) (sym (front-next us u front)) fits)
 
--- a row of a state has the state's numbers at its class
-pub row-of-state : {A : Type 0} {IsValue : A → Type 0} (r : Operations A) (w : Web) (d : ℕ) (n : ℤ) (t : ℕ) (k : List Rows) (f : Family A) (x : Row A) → IsPart IsValue r w d n t k f → Contains f.rows x → IsOfState r w d n t k x.class x.series
-row-of-state {IsValue = IsValue} r w d n t k f x part there i = by_place (i -ℤ kept_upto w (no_legs w) d n) refl
-  where
-    is : IsRow IsValue r f.heights f.top f.upto x
-    is = all-contains (IsRow IsValue r f.heights f.top f.upto) f.rows x part.family.rows there
+-- a row of a state has the state's numbers at its class, as far as the state is known
+module _ {A : Type 0} {IsValue : A → Type 0} (r : Operations A) (w : Web) (d : ℕ) (n : ℤ) (t : ℕ) (k : List Rows) (f : Family A) (x : Row A) (part : IsPart IsValue r w d n t k f) (there : Contains f.rows x) where
+  is-row : IsRow IsValue r f.heights f.top f.upto x
+  is-row = all-contains (IsRow IsValue r f.heights f.top f.upto) f.rows x part.family.rows there
 
-    inside : i ≤ℤ kept_upto w (no_legs w) d n → coefficient r x.series i ≡ times r (state_number w (no_legs w) d (kept_upto w (no_legs w) d n) t k x.class i)
-    inside within =
-        let most : degree_of w.heights x.class ≤ℤ pos d = rw (← part.shape.heights, ← part.shape.top) is.place.within in
-        sym (ap (series_coefficient r i) (row_found f.heights f.rows x part.family.rises there)) ∙ part.numbers x.class i within most
+  pub row-known : IsOfState r w d n t k x.class f.upto x.series
+  row-known i within =
+      let most : degree_of w.heights x.class ≤ℤ pos d = rw (← part.shape.heights, ← part.shape.top) is-row.place.within in
+      sym (ap (series_coefficient r i) (row_found f.heights f.rows x part.family.rises there)) ∙ part.numbers x.class i within most
 
-    by_place : (z : ℤ) → i -ℤ kept_upto w (no_legs w) d n ≡ z → coefficient r x.series i ≡ times r (state_number w (no_legs w) d (kept_upto w (no_legs w) d n) t k x.class i)
-    by_place (pos (suc z)) e =
-        let last : upto x.series ≡ kept_upto w (no_legs w) d n = is.known ∙ part.shape.upto in
-        coefficient_beyond r x.series i (omega (arith, ints))
-        ∙ sym (ap (times r) (state_within w (no_legs w) d (kept_upto w (no_legs w) d n) t k x.class i (inl (omega (arith, ints)))) ∙ times-none r)
-    by_place (pos zero) e = inside (omega (arith, ints))
-    by_place (negsuc z) e = inside (omega (arith, ints))
+  -- and everywhere, where it is known through the greatest exponent kept
+  row-whole : f.upto ≡ kept_upto w (no_legs w) d n → (i : ℤ) → coefficient r x.series i ≡ times r (state_number w (no_legs w) d (kept_upto w (no_legs w) d n) t k x.class i)
+  row-whole whole i = by_place (i -ℤ f.upto) refl
+    where
+      by_place : (z : ℤ) → i -ℤ f.upto ≡ z → coefficient r x.series i ≡ times r (state_number w (no_legs w) d (kept_upto w (no_legs w) d n) t k x.class i)
+      by_place (pos (suc z)) e =
+          let last : upto x.series ≡ f.upto = is-row.known in
+          coefficient_beyond r x.series i (omega (arith, ints))
+          ∙ sym (ap (times r) (state_within w (no_legs w) d (kept_upto w (no_legs w) d n) t k x.class i (inl (omega (arith, ints)))) ∙ times-none r)
+      by_place (pos zero) e = row-known i (omega (arith, ints))
+      by_place (negsuc z) e = row-known i (omega (arith, ints))
+
+  pub row-of-state : (m s : ℤ) → Reaches w d n f.upto m s → IsOfState r w d n t k x.class (m -ℤ s) x.series
+  row-of-state m s reaches i within = elim reaches [ inl whole ↦ row-whole whole i | inr far ↦ row-known i (omega (arith, ints)) ]
 
 pub row-has : {A : Type 0} {IsValue : A → Type 0} (r : Operations A) (w : Web) (d : ℕ) (n : ℤ) (t : ℕ) (k : List Rows) (f : Family A) (x : Row A) → IsPart IsValue r w d n t k f → Contains f.rows x → HasClass w d t k x.class
 row-has r w d n t k f x part there = all-contains (λ (y : Row _). HasClass w d t k y.class) f.rows x (all_classes (HasClass w d t k) f.rows part.each) there

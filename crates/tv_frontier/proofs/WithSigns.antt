@@ -41,7 +41,7 @@ use Rattle.tv_frontier.specs.Rows.{IsPart}
 use Rattle.tv_frontier.specs.Signs.{by_sign, signed_at, signed_terms, signed_row, signed_family}
 use Rattle.tv_frontier.specs.Frontiers.{IsPartialRow, IsPartialFamily}
 use Rattle.tv_frontier.proofs.Least.{lowest-low}
-use Rattle.tv_frontier.proofs.RowAdded.{row-of-state, row-among}
+use Rattle.tv_frontier.proofs.RowAdded.{row-known, row-among}
 
 pub signed_at-is : {A : Type 0} (r : Operations A) (ps : List Point) (v : List ℤ) (s : Terms A) (low : ℤ) (i : ℕ) → signed_at r ps v s low i ≡ by_sign r (class_sign ps v (low +ℤ pos i)) (coefficient r s (low +ℤ pos i))
 unfolding signed_at
@@ -109,9 +109,9 @@ module _ {A : Type 0} {IsValue : A → Type 0} {r : Operations A} (laws : RingLa
   sign-times true k = sym (ap (whole_times r) (positive k) ∙ whole_times-pos r k)
   sign-times false k = sym (ap (whole_times r) (negative k) ∙ (whole_times-neg laws (pos k) ∙ ap r.neg (whole_times-pos r k)))
 
-  pub signed-number : (number : ℤ → ℕ) → ((i : ℤ) → coefficient r s i ≡ times r (number i)) → (i : ℤ) → i ≤ℤ n → coefficient r (signed_terms r ps n v s) i ≡ whole_times r (class_sign ps v i *ℤ pos (number i))
+  pub signed-number : (number : ℤ → ℕ) → ((i : ℤ) → i ≤ℤ n → coefficient r s i ≡ times r (number i)) → (i : ℤ) → i ≤ℤ n → coefficient r (signed_terms r ps n v s) i ≡ whole_times r (class_sign ps v i *ℤ pos (number i))
   signed-number number of i within =
-      signed-coefficient i within ∙ (ap (by_sign r (class_sign ps v i)) (of i) ∙ sign-times (nat_eq (parity (i +ℤ even_sum ps v)) 0) (number i))
+      signed-coefficient i within ∙ (ap (by_sign r (class_sign ps v i)) (of i within) ∙ sign-times (nat_eq (parity (i +ℤ even_sum ps v)) 0) (number i))
 
 -- ---- the rows
 
@@ -154,7 +154,7 @@ signed-next r ps hs n rows olds news k x v s rises e ev es is put_is =
 
 -- ---- the family of a state
 
-module _ {A : Type 0} {IsValue : A → Type 0} {r : Operations A} (laws : RingLaws IsValue r) (w : Web) (d : ℕ) (n : ℤ) (t : ℕ) (k : List Rows) (f : Family A) (graded : IsGraded w) (rule : HasEdgeRule w) (corners : t ≤ length w.triangles) (part : IsPart IsValue r w d n t k f) where
+module _ {A : Type 0} {IsValue : A → Type 0} {r : Operations A} (laws : RingLaws IsValue r) (w : Web) (d : ℕ) (n : ℤ) (t : ℕ) (k : List Rows) (f : Family A) (graded : IsGraded w) (rule : HasEdgeRule w) (corners : t ≤ length w.triangles) (part : IsPart IsValue r w d n t k f) (reach : n ≤ℤ f.upto) where
   is-row : (x : Row A) → Contains f.rows x → IsRow IsValue r f.heights f.top f.upto x
   is-row x there = all-contains (IsRow IsValue r f.heights f.top f.upto) f.rows x part.family.rows there
 
@@ -163,7 +163,7 @@ module _ {A : Type 0} {IsValue : A → Type 0} {r : Operations A} (laws : RingLa
 
   row-sum : (x : Row A) → Contains f.rows x → (i : ℤ) → i ≤ℤ n → coefficient r (signed_terms r w.points n x.class x.series) i ≡ whole_times r (state_sum w (no_legs w) d (kept_upto w (no_legs w) d n) t k x.class i)
   row-sum x there i within =
-      signed-number laws w.points n x.class x.series (state_number w (no_legs w) d (kept_upto w (no_legs w) d n) t k x.class) (row-of-state r w d n t k f x part there) i within
+      signed-number laws w.points n x.class x.series (state_number w (no_legs w) d (kept_upto w (no_legs w) d n) t k x.class) (λ z most. row-known r w d n t k f x part there z (omega (arith, ints))) i within
       ∙ ap (whole_times r) (sym (sign_of_state w (no_legs w) d (kept_upto w (no_legs w) d n) t k x.class i rule))
 
   row-low : (x : Row A) → Contains f.rows x → int_min (lowest w (no_legs w) d) (n +ℤ pos 1) ≤ℤ int_min x.series.low (n +ℤ pos 1)
@@ -194,8 +194,8 @@ module _ {A : Type 0} {IsValue : A → Type 0} {r : Operations A} (laws : RingLa
     }) f.rows (all-members f.rows);
   }
 
-pub full-family : {A : Type 0} {IsValue : A → Type 0} {r : Operations A} → RingLaws IsValue r → (w : Web) (d : ℕ) (n : ℤ) (f : Family A) → IsGraded w → HasEdgeRule w → IsPart IsValue r w d n (length w.triangles) [] f → IsFull r w (no_legs w) d n (signed_family r w.points n f)
-full-family {IsValue = IsValue} {r = r} laws w d n f graded rule part =
+pub full-family : {A : Type 0} {IsValue : A → Type 0} {r : Operations A} → RingLaws IsValue r → (w : Web) (d : ℕ) (n : ℤ) (f : Family A) → IsGraded w → HasEdgeRule w → IsPart IsValue r w d n (length w.triangles) [] f → n ≤ℤ f.upto → IsFull r w (no_legs w) d n (signed_family r w.points n f)
+full-family {IsValue = IsValue} {r = r} laws w d n f graded rule part reach =
     let last = length w.triangles in
     let here : last ≤ last = omega arith in
     record {
@@ -203,14 +203,14 @@ full-family {IsValue = IsValue} {r = r} laws w d n f graded rule part =
       top = part.shape.top;
       upto = refl;
       classes = record {
-        rises = rises laws w d n last [] f graded rule here part;
-        each = all-onto (HasClass w d last []) (IsClass w d) (λ v has. (whole_classes w d v).0 has) (classes (map (signed_row r w.points n) f.rows)) (each laws w d n last [] f graded rule here part);
-        whole = λ v is. whole laws w d n last [] f graded rule here part v ((whole_classes w d v).1 is);
+        rises = rises laws w d n last [] f graded rule here part reach;
+        each = all-onto (HasClass w d last []) (IsClass w d) (λ v has. (whole_classes w d v).0 has) (classes (map (signed_row r w.points n) f.rows)) (each laws w d n last [] f graded rule here part reach);
+        whole = λ v is. whole laws w d n last [] f graded rule here part reach v ((whole_classes w d v).1 is);
       };
       rows = all-map (Contains f.rows) (IsFullRow r w (no_legs w) d n) (signed_row r w.points n) (λ x there. record {
-        counts = λ i within. row-sum laws w d n last [] f graded rule here part x there i within ∙ ap (whole_times r) (whole_is_state w (no_legs w) d x.class i n graded (no_diagrams w) (row-most laws w d n last [] f graded rule here part x there) within);
+        counts = λ i within. row-sum laws w d n last [] f graded rule here part reach x there i within ∙ ap (whole_times r) (whole_is_state w (no_legs w) d x.class i n graded (no_diagrams w) (row-most laws w d n last [] f graded rule here part reach x there) within);
         known = signed-known r w.points n x.class x.series;
-        low = row-low laws w d n last [] f graded rule here part x there;
+        low = row-low laws w d n last [] f graded rule here part reach x there;
       }) f.rows (all-members f.rows);
     }
 

@@ -1,7 +1,8 @@
 -- The families of the choices after a corner, one for each, and what the states before it add to them.
 --
 -- AllHold IsValue r w d n t fronts keys parts == for each choice the family holds its addends, and there are as many families
--- AllShaped w d m parts    == each family has the shape
+-- AllShaped w d bs parts   == each family has the shape, its exponents to its bound, and there are as many bounds
+-- AreWithout w d bs parts  == each family is the one that has no class, its exponents to its bound, and there are as many bounds
 -- pair_addends w d n t h g us k == what h, with the classes us, and g add to the family of k: where both are of degree at most d
 --                             together and k is the choice after them, the addends of the classes, else nothing
 -- GrowsBy .. adds keys olds news == whatever the families hold, each holds its addends besides then
@@ -19,7 +20,7 @@ use Rattle.tv_ring.specs.Operations.{Operations}
 use Rattle.tv_spec_plane.specs.Web.{Web, compact, degree_of}
 use Rattle.tv_spec_boxes.specs.Assignments.{Rows, class_of, same_choice}
 use Rattle.tv_spec_partial.specs.Partial.{is_pending}
-use Rattle.tv_spec_series.specs.Families.{Family, classes}
+use Rattle.tv_spec_series.specs.Families.{Family, classes, without_rows}
 use Rattle.tv_laws_frontier.specs.Steps.{is_new, states, options, near_part}
 use Rattle.tv_assigned_series.specs.FamilyFaults.{IsCrowded}
 use Rattle.tv_frontier.specs.Sums.{Addend}
@@ -30,8 +31,15 @@ AllHold IsValue r w d n t fronts [] [] = ⊤
 AllHold IsValue r w d n t fronts (k ∷ ks) (f ∷ fs) = Holding IsValue r w d n t k (fronts k) f × AllHold IsValue r w d n t fronts ks fs
 AllHold IsValue r w d n t fronts _ _ = ⊥
 
-abbrev pub AllShaped : {A : Type 0} → Web → ℕ → ℤ → List (Family A) → Type 0
-AllShaped w d m parts = AllByRecursion (HasShape w d m) parts
+abbrev pub AllShaped : {A : Type 0} → Web → ℕ → List ℤ → List (Family A) → Type 0
+AllShaped w d [] [] = ⊤
+AllShaped w d (b ∷ bs) (f ∷ fs) = HasShape w d b f × AllShaped w d bs fs
+AllShaped w d _ _ = ⊥
+
+abbrev pub AreWithout : {A : Type 0} → Web → ℕ → List ℤ → List (Family A) → Type 0
+AreWithout w d [] [] = ⊤
+AreWithout w d (b ∷ bs) (f ∷ fs) = (f ≡ without_rows w.heights (pos d) b) × AreWithout w d bs fs
+AreWithout w d _ _ = ⊥
 
 abbrev pub pair_addends : Web → ℕ → ℤ → ℕ → List Rows → List Rows → List (List ℤ) → List Rows → List Addend
 pair_addends w d n t h g us k =

@@ -8,12 +8,15 @@
 -- HasRoom w d n front      == each such sum is at most the crowd of the class, of degree at most d, through the greatest
 --                             exponent kept
 -- HasShape w d m f         == the family has the heights of the web, degrees to d and exponents to m
+-- IsBound w d n b          == b is at most the greatest exponent kept, and no further below the lowest kept than one
+-- IsShaped w d n f         == the family has the heights of the web and degrees to d, and exponents to such a bound
 -- Holding IsValue r w d n t k front f == the family holds these addends, and each of its classes is one of the state of k after
 --                             t corners
 -- KeepsRows IsValue r w d n t h g us f e == whatever f holds, e holds it and the addends of the classes us
 -- IsCrowdedBy IsValue r w d n t h g us f v == v is crowded, if f holds some addends and there is room for those of us besides
--- IsPart IsValue r w d n t k f == f has the classes of the state of k after t corners, and its numbers, times one
-use Rattle.std.specs.Prelude.{◌≡◌, Contains, ℕ, suc, ◌+◌, ◌≤◌, ℤ, pos, ◌≤ℤ◌, List, [], ◌∷◌, ◌++◌, cond, int_le, unsigned_abs}
+-- IsPart IsValue r w d n t k f == f has the classes of the state of k after t corners, and its numbers, times one, as far as its
+--                             exponents go
+use Rattle.std.specs.Prelude.{◌≡◌, Contains, ℕ, suc, ◌+◌, ◌≤◌, ℤ, pos, ◌+ℤ◌, ◌≤ℤ◌, List, [], ◌∷◌, ◌++◌, cond, int_le, unsigned_abs}
 use Rattle.std.specs.List.{AllByRecursion}
 use Rattle.tv_lemmas.specs.Sums.{plus}
 use Rattle.tv_ring.specs.Operations.{Operations}
@@ -59,9 +62,18 @@ pub record HasShape {A : Type 0} (w : Web) (d : ℕ) (m : ℤ) (f : Family A) : 
   pub top : f.top ≡ pos d
   pub upto : f.upto ≡ m
 
+pub record IsBound (w : Web) (d : ℕ) (n b : ℤ) : Type 0 where
+  pub first : lowest_kept w d n ≤ℤ (b +ℤ pos 1)
+  pub last : b ≤ℤ kept_upto w (no_legs w) d n
+
+pub record IsShaped {A : Type 0} (w : Web) (d : ℕ) (n : ℤ) (f : Family A) : Type 0 where
+  pub heights : f.heights ≡ w.heights
+  pub top : f.top ≡ pos d
+  pub bound : IsBound w d n f.upto
+
 abbrev pub Holding : {A : Type 0} → (A → Type 0) → Operations A → Web → ℕ → ℤ → ℕ → List Rows → List Addend → Family A → Type 0
 Holding IsValue r w d n t k front f =
-    Holds IsValue r w.heights (pos d) (kept_upto w (no_legs w) d n) (lowest_kept w d n) (HasClass w d t k) front f
+    Holds IsValue r w.heights (pos d) f.upto (lowest_kept w d n) (HasClass w d t k) front f
 
 abbrev pub KeepsRows : {A : Type 0} → (A → Type 0) → Operations A → Web → ℕ → ℤ → ℕ → List Rows → List Rows → List (List ℤ) → Family A → Family A → Type 0
 KeepsRows IsValue r w d n t h g us f e =
@@ -74,10 +86,10 @@ IsCrowdedBy IsValue r w d n t h g us f v =
     HasRoom w d n (front ++ row_addends w d n t h g us) → IsCrowded r w d n v
 
 pub record IsPart {A : Type 0} (IsValue : A → Type 0) (r : Operations A) (w : Web) (d : ℕ) (n : ℤ) (t : ℕ) (k : List Rows) (f : Family A) : Type 0 where
-  pub shape : HasShape w d (kept_upto w (no_legs w) d n) f
+  pub shape : IsShaped w d n f
   pub family : IsFamily IsValue r f
   pub each : AllByRecursion (HasClass w d t k) (classes f.rows)
   pub whole : (v : List ℤ) → HasClass w d t k v → Contains (classes f.rows) v
   pub low : AllByRecursion (StartsAt (lowest_kept w d n)) f.rows
-  pub numbers : (v : List ℤ) (i : ℤ) → i ≤ℤ kept_upto w (no_legs w) d n → degree_of w.heights v ≤ℤ pos d →
+  pub numbers : (v : List ℤ) (i : ℤ) → i ≤ℤ f.upto → degree_of w.heights v ≤ℤ pos d →
       coefficient_of r f v i ≡ times r (state_number w (no_legs w) d (kept_upto w (no_legs w) d n) t k v i)

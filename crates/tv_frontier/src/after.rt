@@ -3,12 +3,14 @@
 ghost use Rattle.std.specs.Prelude.{◌≡◌, ◌≤◌, length, unsigned_abs, IfOk, IfErr};
 ghost use Rattle.tv_assigned_series.specs.FamilyFaults.{OnWide, IsCrowded};
 ghost use Rattle.tv_frontier.specs.Joining.{IsSpan};
+ghost use Rattle.tv_frontier.specs.Bounds.{uptos, AllReach};
 ghost use Rattle.tv_frontier.specs.Layers.{IsLayer};
 
 use crate::first::first_layer;
 use crate::joining::Stage;
 use crate::layer::{Layer, next_layer};
 use crate::lowest::{lesser, lowest_of};
+use crate::plan::plan_of;
 use std::alloc::{AllocError, Global};
 use tv_assigned_series::{Corners, GlueFault};
 use tv_degrees::grade::GradedWeb;
@@ -31,7 +33,7 @@ pub(crate) fn span_of(
     Ok((lesser(low, upto + 1), upto))
 }
 
-/// The states after the first corners, as many as the stage says.
+/// The states after the first corners, as many as the stage says, each through its order at least.
 pub(crate) fn layer_after<C: Ring>(
     alloc: Global,
     stage: &Stage,
@@ -39,9 +41,11 @@ pub(crate) fn layer_after<C: Ring>(
 ) -> Result<Layer<C>, GlueFault>
     requires span { IsSpan stage.now.web.now stage.now.d stage.now.n stage.now.floor stage.now.upto }
     requires corners { stage.now.t ≤ length stage.now.web.now.triangles }
+    ensures reach { IfOk result (λ layer. AllReach stage.now.n (uptos layer.parts.items)) }
     ensures layer { IfOk result (λ layer. IsLayer C.IsValue C.ring stage.now.web.now stage.now.d stage.now.n stage.now.t layer.keys.items layer.parts.items) }
     ensures wide { IfErr result (λ e. OnWide e (IsCrowded C.ring stage.now.web.now stage.now.d stage.now.n)) }
 {
+    let plan = plan_of(alloc, stage)?;
     let mut layer = first_layer(alloc, stage)?;
     for t in 0..stage.t {
         let here = Stage {
@@ -52,7 +56,8 @@ pub(crate) fn layer_after<C: Ring>(
             upto: stage.upto,
             t,
         };
-        layer = next_layer(alloc, &here, &layer, corners)?;
+        let bounds = plan[(stage.t - 1 - t) as usize].each();
+        layer = next_layer(alloc, &here, &layer, bounds, corners)?;
     }
     Ok(layer)
 }

@@ -4,6 +4,7 @@ ghost use Rattle.std.specs.Prelude.{◌≡◌, [], ◌∷◌, pos, IfOk, IfErr, 
 ghost use Rattle.tv_laws_series.specs.Terms.{terms};
 ghost use Rattle.tv_frontier.specs.Joining.{IsSpan, moved_terms};
 ghost use Rattle.tv_frontier.specs.Rows.{IsPart};
+ghost use Rattle.tv_frontier.specs.Bounds.{uptos};
 ghost use Rattle.tv_frontier.specs.Layers.{IsLayer};
 
 use crate::joining::{Stage, moved};
@@ -16,10 +17,11 @@ use tv_graded::Graded;
 use tv_laurent::Series;
 use tv_ring::{Ring, RingFault};
 
-/// The states before all corners.
+/// The states before all corners, with all that is kept.
 pub(crate) fn first_layer<C: Ring>(alloc: Global, stage: &Stage) -> Result<Layer<C>, GlueFault>
     requires span { IsSpan stage.now.web.now stage.now.d stage.now.n stage.now.floor stage.now.upto }
     ensures layer { IfOk result (λ layer. IsLayer C.IsValue C.ring stage.now.web.now stage.now.d stage.now.n 0 layer.keys.items layer.parts.items) }
+    ensures upto { IfOk result (λ layer. uptos layer.parts.items ≡ stage.now.upto ∷ []) }
     ensures memory { IfErr result (λ e. e ≡ GlueFault.Memory) }
 {
     let mut keys = Vec::new(alloc);
@@ -32,10 +34,11 @@ pub(crate) fn first_layer<C: Ring>(alloc: Global, stage: &Stage) -> Result<Layer
 fn first_part<C: Ring>(alloc: Global, stage: &Stage) -> Result<Graded<C>, GlueFault>
     requires span { IsSpan stage.now.web.now stage.now.d stage.now.n stage.now.floor stage.now.upto }
     ensures part { IfOk result (λ part. IsPart C.IsValue C.ring stage.now.web.now stage.now.d stage.now.n 0 [] part) }
+    ensures upto { IfOk result (λ part. part.upto ≡ stage.now.upto) }
     ensures memory { IfErr result (λ e. e ≡ GlueFault.Memory) }
 {
     stage.web.known();
-    let mut family = without_classes(alloc, stage)?;
+    let mut family = without_classes(alloc, stage, stage.upto)?;
     let empty = Assignment::new(nothing(alloc, stage.web)?);
     let class = class_of(alloc, stage.web, &empty)?;
     let series = match first_series(alloc, stage) {

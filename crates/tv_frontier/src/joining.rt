@@ -6,7 +6,7 @@ ghost use Rattle.tv_spec_plane.specs.Web.{degree_of};
 ghost use Rattle.tv_spec_boxes.specs.Assignments.{class_difference};
 ghost use Rattle.tv_spec_series.specs.Families.{coefficient};
 ghost use Rattle.tv_assigned_series.specs.FamilyFaults.{OnWide, IsCrowded};
-ghost use Rattle.tv_frontier.specs.Joining.{IsSpan, IsStage, IsJoin, moved_low, moved_terms, IsOfState, IsJoined};
+ghost use Rattle.tv_frontier.specs.Joining.{IsRange, IsStage, IsJoin, moved_low, moved_terms, IsOfState, IsJoined};
 
 use std::alloc::Global;
 use tv_assigned_series::{Corners, GlueFault, of_ring, of_series};
@@ -17,8 +17,8 @@ use tv_lattice::class::Class;
 use tv_laurent::{Coefficient, Series};
 use tv_ring::{Ring, RingFault};
 
-/// A web with the degree and the last exponent that are asked for, the corner that is taken, and the exponents at which a
-/// number can stand before it: from `floor` on, through `upto`.
+/// A web with the degree and the last exponent that are asked for, the corner that is taken, and the exponents at which numbers
+/// are kept: from `floor` on, through `upto`.
 #[derive(Drop)]
 pub(crate) struct Stage<'a> {
     pub(crate) web: &'a GradedWeb,
@@ -53,8 +53,8 @@ pub(crate) fn joined<C: Ring>(
     requires stage { IsStage stage.now.web.now stage.now.d stage.now.n stage.now.floor stage.now.upto stage.now.t }
     requires join { IsJoin stage.now.web.now stage.now.d stage.now.t join.now.first.now join.now.new.now join.now.legs join.now.class join.now.near join.now.shift }
     requires within { degree_of stage.now.web.now.heights class.now ≤ℤ pos stage.now.d }
-    requires state { IsOfState C.ring stage.now.web.now stage.now.d stage.now.n stage.now.t join.now.first.now (class_difference class.now join.now.class) series.now }
-    ensures joined { IfOk result (λ s. IsJoined C.ring stage.now.web.now stage.now.d stage.now.n stage.now.t join.now.first.now join.now.new.now class.now s) }
+    requires state { IsOfState C.ring stage.now.web.now stage.now.d stage.now.n stage.now.t join.now.first.now (class_difference class.now join.now.class) (stage.now.upto -ℤ join.now.shift) series.now }
+    ensures joined { IfOk result (λ s. IsJoined C.ring stage.now.web.now stage.now.d stage.now.n stage.now.t join.now.first.now join.now.new.now class.now stage.now.upto s) }
     ensures wide { IfErr result (λ e. OnWide e (IsCrowded C.ring stage.now.web.now stage.now.d stage.now.n)) }
 {
     stage.web.known();
@@ -87,14 +87,14 @@ fn boxes_between(low: i64, upto: i64) -> u32
     (upto - low) as u32
 }
 
-/// The series with each exponent moved, known through the greatest exponent kept: there is nothing beyond it before the corner.
+/// The series with each exponent moved, known through the last exponent kept. What it doesn't tell is taken for zero.
 pub(crate) fn moved<C: Ring>(
     alloc: Global,
     stage: &Stage,
     series: &Series<C>,
     shift: i64,
 ) -> Result<Series<C>, RingFault>
-    requires span { IsSpan stage.now.web.now stage.now.d stage.now.n stage.now.floor stage.now.upto }
+    requires range { IsRange stage.now.floor stage.now.upto }
     requires shift { unsigned_abs shift ≤ 10000000 }
     ensures value { IfOk result (λ s. s ≡ moved_terms C.ring stage.now.floor stage.now.upto series.now shift) }
     ensures never_wide { IsOkUnless result RingFault.Memory }

@@ -1,11 +1,11 @@
 //! One state and one choice on the edges that are met first at a corner: each class of the state is joined, and added to the
 //! family of the choice after it. No list of states is known here.
 
-ghost use Rattle.std.specs.Prelude.{◌∷◌, [], IfErr, OnOk};
+ghost use Rattle.std.specs.Prelude.{◌∷◌, [], ◌-ℤ◌, IfErr, OnOk};
 ghost use Rattle.tv_spec_series.specs.Families.{classes};
 ghost use Rattle.tv_laws_frontier.specs.StateClasses.{HasClass};
 ghost use Rattle.tv_assigned_series.specs.FamilyFaults.{OnWide};
-ghost use Rattle.tv_frontier.specs.Joining.{IsStage, IsJoin, IsOfState};
+ghost use Rattle.tv_frontier.specs.Joining.{IsStage, IsJoin, Reaches, IsOfState};
 ghost use Rattle.tv_frontier.specs.Rows.{HasShape, KeepsRows, IsCrowdedBy, IsPart};
 
 use crate::joining::{Join, Stage, joined};
@@ -28,6 +28,7 @@ pub(crate) fn join_rows<C: Ring>(
     requires stage { IsStage stage.now.web.now stage.now.d stage.now.n stage.now.floor stage.now.upto stage.now.t }
     requires join { IsJoin stage.now.web.now stage.now.d stage.now.t join.now.first.now join.now.new.now join.now.legs join.now.class join.now.near join.now.shift }
     requires part { IsPart C.IsValue C.ring stage.now.web.now stage.now.d stage.now.n stage.now.t join.now.first.now part.now }
+    requires reaches { Reaches stage.now.web.now stage.now.d stage.now.n part.now.upto stage.now.upto join.now.shift }
     requires shape { HasShape stage.now.web.now stage.now.d stage.now.upto family.old }
     ensures shape { OnOk result (HasShape stage.now.web.now stage.now.d stage.now.upto family.new) }
 
@@ -67,7 +68,7 @@ fn join_row<C: Ring>(
 ) -> Result<(), GlueFault>
     requires stage { IsStage stage.now.web.now stage.now.d stage.now.n stage.now.floor stage.now.upto stage.now.t }
     requires join { IsJoin stage.now.web.now stage.now.d stage.now.t join.now.first.now join.now.new.now join.now.legs join.now.class join.now.near join.now.shift }
-    requires state { IsOfState C.ring stage.now.web.now stage.now.d stage.now.n stage.now.t join.now.first.now class.now series.now }
+    requires state { IsOfState C.ring stage.now.web.now stage.now.d stage.now.n stage.now.t join.now.first.now class.now (stage.now.upto -ℤ join.now.shift) series.now }
     requires class { HasClass stage.now.web.now stage.now.d stage.now.t join.now.first.now class.now }
     requires shape { HasShape stage.now.web.now stage.now.d stage.now.upto family.old }
     ensures shape { OnOk result (HasShape stage.now.web.now stage.now.d stage.now.upto family.new) }

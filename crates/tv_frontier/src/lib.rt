@@ -12,6 +12,7 @@ mod layers;
 mod lowest;
 mod picks;
 mod places;
+mod plan;
 mod signed;
 mod spreads;
 mod state;

@@ -1,7 +1,7 @@
 //! How low the Euler characteristics over the first corners of a web can fall. No box is counted.
 
 ghost use Rattle.std.specs.Prelude.{◌≡◌, ◌<◌, ◌≤◌, length, unsigned_abs, slice_index_or, [], IfOk};
-ghost use Rattle.std.specs.Int.{int_min};
+ghost use Rattle.std.specs.Int.{int_min, int_max};
 ghost use Rattle.tv_spec_boxes.specs.Assignments.{assignments, no_legs};
 ghost use Rattle.tv_spec_boxes.specs.Numbers.{lowest, low_of};
 
@@ -48,4 +48,11 @@ pub(crate) fn lesser(x: i64, y: i64) -> i64
     ensures value { result ≡ int_min x y }
 {
     if y < x { y } else { x }
+}
+
+/// The greater of both.
+pub(crate) fn greater(x: i64, y: i64) -> i64
+    ensures value { result ≡ int_max x y }
+{
+    if x < y { y } else { x }
 }

@@ -1,11 +1,12 @@
 //! The states after some corners as they are told: each choice with the signed sums, and the pending edges. No corner is
 //! joined here.
 
-ghost use Rattle.std.specs.Prelude.{◌≡◌, ◌≤◌, ◌++◌, ◌∷◌, [], cond, length, map, IfOk, IfErr, OnOk};
+ghost use Rattle.std.specs.Prelude.{◌≡◌, ◌≤◌, ◌≤ℤ◌, ◌++◌, ◌∷◌, [], cond, length, map, IfOk, IfErr, OnOk};
 ghost use Rattle.std.specs.List.{AllByRecursion};
 ghost use Rattle.tv_spec_partial.specs.Partial.{pending};
 ghost use Rattle.tv_frontier.specs.Joining.{IsSpan};
 ghost use Rattle.tv_frontier.specs.Rows.{IsPart};
+ghost use Rattle.tv_frontier.specs.Bounds.{uptos, AllReach};
 ghost use Rattle.tv_frontier.specs.Layers.{IsLayer};
 ghost use Rattle.tv_frontier.specs.Frontiers.{IsPartialFamily};
 
@@ -31,6 +32,7 @@ pub(crate) fn states_of<C: Ring>(
     requires span { IsSpan stage.now.web.now stage.now.d stage.now.n stage.now.floor stage.now.upto }
     requires corners { stage.now.t ≤ length stage.now.web.now.triangles }
     requires layer { IsLayer C.IsValue C.ring stage.now.web.now stage.now.d stage.now.n stage.now.t layer.now.keys.items layer.now.parts.items }
+    requires reach { AllReach stage.now.n (uptos layer.now.parts.items) }
     ensures choices { IfOk result (λ states. map (λ s. s.choice) states.items ≡ layer.now.keys.items) }
     ensures each { IfOk result (λ states. AllByRecursion (λ s. IsPartialFamily C.ring stage.now.web.now stage.now.d stage.now.n stage.now.t s.choice s.family) states.items) }
     ensures memory { IfErr result (λ e. e ≡ GlueFault.Memory) }
@@ -51,6 +53,7 @@ fn state_of<C: Ring>(
     requires span { IsSpan stage.now.web.now stage.now.d stage.now.n stage.now.floor stage.now.upto }
     requires corners { stage.now.t ≤ length stage.now.web.now.triangles }
     requires part { IsPart C.IsValue C.ring stage.now.web.now stage.now.d stage.now.n stage.now.t key.now part.now }
+    requires reach { stage.now.n ≤ℤ part.now.upto }
     ensures choice { IfOk result (λ s. s.choice ≡ key.now) }
     ensures family { IfOk result (λ s. IsPartialFamily C.ring stage.now.web.now stage.now.d stage.now.n stage.now.t key.now s.family) }
     ensures memory { IfErr result (λ e. e ≡ GlueFault.Memory) }

@@ -53,8 +53,8 @@ fn few_corners(web: &GradedWeb)
     let _ = web.web().triangles();
 }
 
-// The choices on the edges that the flags name.
-fn choices_on(
+/// The choices on the edges that the flags name.
+pub(crate) fn choices_on(
     alloc: Global,
     web: &GradedWeb,
     flags: &[bool],

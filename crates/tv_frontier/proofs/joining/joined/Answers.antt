@@ -10,7 +10,7 @@ use Rattle.tv_laurent.specs.SeriesCalls.{IsProductWide}
 use Rattle.tv_assigned_series.proofs.Keeping.{read-place}
 use Rattle.tv_assigned_series.specs.FamilyFaults.{IsCrowded}
 use Rattle.tv_frontier.proofs.Joined.{moved-small, moved-joined, corner-crowded, mul-within, mul-joined, mul-reaches, mul-crowded}
-use Rattle.tv_frontier.proofs.Next.{span-of}
+use Rattle.tv_frontier.proofs.Bounded.{range-of}
 use Rattle.tv_assigned_series.proofs.FamilyTold.{ring-told, series-told}
 use Rattle.tv_frontier.proofs.joining.joined.Goals as goal
 
@@ -77,5 +77,5 @@ returns-clause-wide g c =
     (series-told (IsProductWide g.C.Ring.ring c.at.result.now c.in-Ok.moved) (IsCrowded g.C.Ring.ring c.args.stage.now.web.now c.args.stage.now.d c.args.stage.now.n) c.in-Err-mul.fault c.args.class.now c.in-Err-mul.ensures.wide
     (mul-crowded g.met.C.Ring.laws c.known.ensures.graded c.requires.stage c.requires.join c.args.class.now (class_difference c.args.class.now c.args.join.now.class) c.args.series.now c.requires.within refl c.requires.state c.in-Ok.moved is c.boxes_between-k.result long c.at.result.now corner g.met.C.Ring.sizes))
 
-pub moved-requires-clause-span : goal.moved-requires-clause-span
-moved-requires-clause-span g c = span-of c.args.stage.now.web.now c.args.stage.now.d c.args.stage.now.n c.args.stage.now.floor c.args.stage.now.upto c.args.stage.now.t c.requires.stage
+pub moved-requires-clause-range : goal.moved-requires-clause-range
+moved-requires-clause-range g c = range-of c.args.stage.now.web.now c.args.stage.now.d c.args.stage.now.n c.args.stage.now.floor c.args.stage.now.upto c.args.stage.now.t c.requires.stage

@@ -26,20 +26,20 @@ loop-k-preserved g c =
 pub new-requires : goal.new-requires
 new-requires g c =
     let read_low : to_z w64 (of_z w64 c.moved_low-low.result) ≡ c.moved_low-low.result = to_z-of_z w64 c.moved_low-low.result (small-fits c.moved_low-low.result (omega (arith, c.moved_low-low.ensures.bound))) in
-    let bound = c.moved_low-low.ensures.bound in let last = c.requires.span.small_upto in let e = c.count_from-count.ensures.value in
+    let bound = c.moved_low-low.ensures.bound in let last = c.requires.range.small_upto in let e = c.count_from-count.ensures.value in
     let whole : c.loop-k.k ≡ c.count_from-count.result = (let h = c.loop-k.auto.k-end in let i = c.loop-k-test.false in omega arith) in
     record { bounded = written-bounded (to_z w64 (of_z w64 c.moved_low-low.result)) c.args.stage.now.upto c.loop-k.k c.loop-k.coefficients.items (omega (arith, ints)) last (omega (arith, ints)) (ap length c.loop-k.invariant ∙ length-listed _ c.loop-k.k) }
 
 pub returns-clause-value : goal.returns-clause-value
 returns-clause-value g c =
     let read_low : to_z w64 (of_z w64 c.moved_low-low.result) ≡ c.moved_low-low.result = to_z-of_z w64 c.moved_low-low.result (small-fits c.moved_low-low.result (omega (arith, c.moved_low-low.ensures.bound))) in
-    let bound = c.moved_low-low.ensures.bound in let last = c.requires.span.small_upto in let e = c.count_from-count.ensures.value in
+    let bound = c.moved_low-low.ensures.bound in let last = c.requires.range.small_upto in let e = c.count_from-count.ensures.value in
     let whole : c.loop-k.k ≡ c.count_from-count.result = (let h = c.loop-k.auto.k-end in let i = c.loop-k-test.false in omega arith) in
     let place = above_is (to_z w64 (of_z w64 c.moved_low-low.result)) (c.args.stage.now.upto +ℤ pos 1) in
     moved-is g.C.Ring.ring c.args.series.now c.new.result c.args.stage.now.floor c.args.stage.now.upto c.args.shift (to_z w64 (of_z w64 c.args.shift)) (to_z w64 (of_z w64 c.moved_low-low.result)) c.loop-k.k c.loop-k.coefficients.items
     (to_z-of_z w64 c.args.shift c.ranges.shift)
     (read_low ∙ moved_low-read c.moved_low-low.result (to_z w64 (of_z w64 c.args.stage.now.floor)) c.args.stage.now.floor (to_z w64 (of_z w64 c.args.stage.now.upto)) c.args.stage.now.upto (to_z w64 (of_z w64 c.low.result)) c.args.series.now.low (to_z w64 (of_z w64 c.args.shift)) c.args.shift c.moved_low-low.ensures.value
-    (let f = c.requires.span.small_low in omega (arith, ints))
+    (let f = c.requires.range.small_low in omega (arith, ints))
     (omega (arith, ints))
     (let f = c.known.ensures.value.bounded.low in let e = c.low.ensures.value in omega (arith, ints))
     (let f = c.requires.shift in omega (arith, ints)))

@@ -1,5 +1,5 @@
 use Rattle.std.proofs.Common.{◌≡◌, refl, sym, ap, subst, ◌∙◌, length, arith}
-use Rattle.std.specs.Prelude.{ℤ, pos, ◌≤ℤ◌, ◌<ℤ◌, List, [], ◌∷◌}
+use Rattle.std.specs.Prelude.{ℤ, pos, ◌-ℤ◌, ◌≤ℤ◌, ◌<ℤ◌, List, [], ◌∷◌}
 use Rattle.std.proofs.lemmas.Int.{ints}
 use Rattle.tv_spec_plane.specs.Web.{degree_of}
 use Rattle.tv_graded.specs.Calls.{IsAddedWide}
@@ -26,7 +26,7 @@ returns-then-degree-from-clause-held g c =
 
 pub joined-requires-clause-state : goal.joined-requires-clause-state
 joined-requires-clause-state g c =
-    subst (λ (x : List ℤ). IsOfState g.C.Ring.ring c.args.stage.now.web.now c.args.stage.now.d c.args.stage.now.n c.args.stage.now.t c.args.join.now.first.now x c.args.series.now) (sym (left-is g.met.C.Ring.laws c.known.ensures.graded c.known.ensures.heighted c.requires.stage c.requires.join c.args.class.now c.requires.class c.in_ok-target.target c.in_ok-target.ensures)) c.requires.state
+    subst (λ (x : List ℤ). IsOfState g.C.Ring.ring c.args.stage.now.web.now c.args.stage.now.d c.args.stage.now.n c.args.stage.now.t c.args.join.now.first.now x (c.args.stage.now.upto -ℤ c.args.join.now.shift) c.args.series.now) (sym (left-is g.met.C.Ring.laws c.known.ensures.graded c.known.ensures.heighted c.requires.stage c.requires.join c.args.class.now c.requires.class c.in_ok-target.target c.in_ok-target.ensures)) c.requires.state
 
 pub add_into-requires-clause-place : goal.add_into-requires-clause-place
 add_into-requires-clause-place g c =

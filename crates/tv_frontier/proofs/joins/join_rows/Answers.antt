@@ -13,7 +13,7 @@ loop-k-init g c = record { shape = c.requires.shape; held = rows-none g.C.Ring.I
 pub join_row-requires-clause-state : goal.join_row-requires-clause-state
 join_row-requires-clause-state g c =
     let x = row c.in-Some.entry.class.now c.in-Some.entry.series.now in
-    row-of-state g.C.Ring.ring c.args.stage.now.web.now c.args.stage.now.d c.args.stage.now.n c.args.stage.now.t c.args.join.now.first.now c.args.part.now x c.requires.part (row-among c.args.part.now.rows c.loop-k.k x c.in-Some.ensures.row)
+    row-of-state g.C.Ring.ring c.args.stage.now.web.now c.args.stage.now.d c.args.stage.now.n c.args.stage.now.t c.args.join.now.first.now c.args.part.now x c.requires.part (row-among c.args.part.now.rows c.loop-k.k x c.in-Some.ensures.row) c.args.stage.now.upto c.args.join.now.shift c.requires.reaches
 
 pub join_row-requires-clause-class : goal.join_row-requires-clause-class
 join_row-requires-clause-class g c =

@@ -8,6 +8,7 @@ use Rattle.tv_frontier.specs.Layers.{state_addends, classed, layer_addends, Grow
 use Rattle.tv_frontier.proofs.Among.{grows-none, grows-next, crowded-among}
 use Rattle.tv_frontier.proofs.Next.{among-at, part-at, parts-long, classed-taken, classed-long}
 use Rattle.tv_assigned_series.proofs.FamilyTold.{on-wide}
+use Rattle.tv_frontier.proofs.Bounded.{suffices-at}
 use Rattle.tv_frontier.proofs.layer.join_all.Goals as goal
 
 pub loop-k-init : goal.loop-k-init
@@ -24,6 +25,12 @@ pub join_state-requires-clause-part : goal.join_state-requires-clause-part
 join_state-requires-clause-part g c =
     let bound : c.loop-k.k < length c.args.layer.now.keys.items = (let e = c.len-k-end.ensures in let h = c.loop-k-test.true in omega arith) in
     part-at g.C.Ring.IsValue g.C.Ring.ring c.args.stage.now.web.now c.args.stage.now.d c.args.stage.now.n c.args.stage.now.t c.args.layer.now.keys.items c.args.layer.now.parts.items c.loop-k.k c.index.result.now c.index-in-loop-k.result.now c.requires.layer.parts bound c.index.ensures c.index-in-loop-k.ensures
+
+pub join_state-requires-clause-suffices : goal.join_state-requires-clause-suffices
+join_state-requires-clause-suffices g c =
+    let bound : c.loop-k.k < length c.args.layer.now.keys.items = (let e = c.len-k-end.ensures in let h = c.loop-k-test.true in omega arith) in
+    let all = parts-long g.C.Ring.IsValue g.C.Ring.ring c.args.stage.now.web.now c.args.stage.now.d c.args.stage.now.n c.args.stage.now.t c.args.layer.now.keys.items c.args.layer.now.parts.items c.requires.layer.parts in
+    suffices-at c.args.stage.now.web.now c.args.stage.now.d c.args.stage.now.n c.args.stage.now.t c.args.bounds.now c.args.layer.now.keys.items c.args.layer.now.parts.items c.loop-k.k c.index.result.now c.index-in-loop-k.result.now c.requires.layer.keys c.requires.suffice bound (omega arith) c.index.ensures c.index-in-loop-k.ensures
 
 pub loop-k-preserved : goal.loop-k-preserved
 loop-k-preserved g c =

@@ -11,7 +11,7 @@ use Rattle.tv_assigned_series.specs.FamilyFaults.{OnWide}
 use Rattle.tv_frontier.specs.Picks.{put_by}
 use Rattle.tv_frontier.specs.Layers.{pair_addends, state_addends, GrowsBy, CrowdedIn}
 use Rattle.tv_frontier.proofs.Among.{grows-none, grows-next, crowded-among}
-use Rattle.tv_frontier.proofs.Next.{spread-is, among-at, keys-once, take-next}
+use Rattle.tv_frontier.proofs.Next.{spread-is, among-at, take-next}
 use Rattle.tv_frontier.proofs.Pair.{state-few}
 use Rattle.tv_assigned_series.proofs.FamilyTold.{on-wide}
 use Rattle.tv_frontier.proofs.layers.join_state.Goals as goal
@@ -33,7 +33,7 @@ pub join_pair-requires-clause-spread : goal.join_pair-requires-clause-spread
 join_pair-requires-clause-spread g c = spread-is c.args.stage.now.web.now (is_pending c.args.stage.now.t) c.args.step.now.pending.items c.args.key.now c.in_ok-spread.spread.part c.requires.step.pending (c.in_ok-spread.ensures.part ∙ ap (λ fs. put_by fs c.args.key.now (nothing (compact c.args.stage.now.web.now))) c.deref.ensures.value)
 
 pub join_pair-requires-clause-keys : goal.join_pair-requires-clause-keys
-join_pair-requires-clause-keys g c = keys-once c.args.stage.now.web.now c.args.stage.now.d (suc c.args.stage.now.t) c.deref-in-loop-k-3.result.now (c.deref-in-loop-k-3.ensures.value ∙ c.requires.step.keys)
+join_pair-requires-clause-keys g c = c.deref-in-loop-k-3.ensures.value ∙ c.requires.step.keys
 
 pub loop-k-preserved : goal.loop-k-preserved
 loop-k-preserved g c =
