@@ -138,14 +138,6 @@ least-bound w d n low m b c span more is =
 
 -- ---- the plan
 
-pub plan-none : (w : Web) (d : ℕ) (n : ℤ) (t : ℕ) (plan : List (List ℤ)) → plan ≡ [] → t ≡ 0 → IsPlan w d n t t plan
-plan-none w d n t plan is none = record {
-  long = ap length is ∙ sym none;
-  each = λ s j sum within. absurd (omega arith);
-  last = λ some. absurd (omega arith);
-  steps = λ s j sum within. absurd (omega arith);
-}
-
 pub plan-first : (w : Web) (d : ℕ) (n : ℤ) (t : ℕ) (plan : List (List ℤ)) (bs : List ℤ) → plan ≡ bs ∷ [] → AreBounds w d n t bs → AllReach n bs → IsPlan w d n t 1 plan
 plan-first w d n t plan bs is bounds reach = record {
   long = ap length is;

@@ -128,7 +128,8 @@ fn join_pair<C: Ring>(
     }
 }
 
-/// How a state and a choice on the new edges meet; none where both together are of a degree above d.
+/// How a state and a choice on the new edges meet; none where both together are of a degree above d, or where no state after the
+/// corner is the choice after them.
 pub(crate) fn meeting_of<'a>(
     alloc: Global,
     stage: &Stage,
