@@ -67,10 +67,6 @@ module _ {A : Type 0} (IsValue : A → Type 0) (r : Operations A) (w : Web) (d :
       let there : HasRoom w d n (fronts (get_or keys p []) ++ adds (get_or keys p [])) = all-at (λ (z : List Rows). HasRoom w d n (fronts z ++ adds z)) keys [] room p h in
       crowded (fronts k) (held-at fronts keys parts p k f h at_key at_part held) (subst (λ (z : List Rows). HasRoom w d n (fronts z ++ adds z)) at_key there)
 
-  -- one pair after the other
-  pub grows-then : (a b : List Rows → List Addend) (keys : List (List Rows)) (olds mids news : List (Family A)) → GrowsBy IsValue r w d n t a keys olds mids → GrowsBy IsValue r w d n t b keys mids news → (fronts : List Rows → List Addend) → AllHold IsValue r w d n t fronts keys olds → AllHold IsValue r w d n t (λ k. (fronts k ++ a k) ++ b k) keys news
-  grows-then a b keys olds mids news first second fronts held = second (λ k. fronts k ++ a k) (first fronts held)
-
 -- ---- what one pair adds
 
 pub pair-none : (w : Web) (d : ℕ) (n : ℤ) (t : ℕ) (h g : List Rows) (us : List (List ℤ)) (k : List Rows) → same_choice (after_of w t h g) k ≡ false → pair_addends w d n t h g us k ≡ []

@@ -1,14 +1,16 @@
 -- Tables of heights of which some places are replaced.
 --
--- ways_in legs k t top n i slices s c == the ways up to the heights of s, of which i are replaced
--- all_done s      == every key is done
--- has_key rows s    == the rows have s as a key
+-- ways_in legs t plan i slices s c == the ways from the slices on diagonal t up to the heights of s, of which i are replaced
+-- summed legs k t slices s c == what comes to s, which fits the legs above diagonal t, from those of the slices with which it
+--                     interlaces, when its extras are paid
+-- kept_in legs plan i s == how many costs of the heights of s are kept
+-- all_done s          == every key is done
+-- has_key rows s      == the rows have s as a key
 -- grouped plan i rows s == they have it when its height at the place that is replaced after i others is 0
--- summed legs k t slices s c == what comes to s, which fits the legs above the diagonal t, from those of the slices with which it
---                    interlaces, when its extras are paid
--- IsEnd r legs t plan slices done rows == each slice above the diagonal t that has a row fits, has at most k extras and the row of what
---                    comes to it; to each other one whose heights are done nothing comes as far as it is kept
--- IsPart r legs t plan i slices done rows == each key that has a row has that of its ways; each other one that fits and is done has none
+-- IsPart r legs t plan i slices done rows == each key that has a row has that of its ways; to each other one that fits and is done
+--                     no ways lead, as far as they are kept
+-- IsEnd r legs t plan slices done rows == each slice above diagonal t that has a row fits, has at most k extras and the row of what
+--                     comes to it; to each other one whose heights are done nothing comes, as far as it is kept
 use Rattle.std.specs.Prelude.{◌≡◌, ℕ, ◌<◌, ◌≤◌, ℤ, pos, ◌+ℤ◌, Bool, true, cond, List, MatchOption, is_some}
 use Rattle.std.specs.List.{AllByRecursion}
 use Rattle.std.specs.Map.{lookup}

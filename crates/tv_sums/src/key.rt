@@ -8,6 +8,7 @@ ghost use Rattle.tv_sums.specs.Keys.{key, cut_from, cut};
 
 use std::alloc::{AllocError, Global};
 use tv_interlace::slice::Slice;
+use tv_partition::diagram::MOST_CELLS;
 
 /// The heights of the slice at the first n places.
 pub fn key_of(alloc: Global, a: &Slice, top: u32, n: u32) -> Result<Slice, AllocError>
@@ -48,7 +49,7 @@ fn height_at(s: &Slice, p: u32, y: u32, d: u32) -> u32
 /// The slice with that many places without end, and the heights of s behind them.
 pub fn cut(alloc: Global, s: &Slice, full: u32, n: u32) -> Result<Slice, AllocError>
     requires short { n < 2 ^ 30 }
-    requires front { full ≤ 24 }
+    requires front { full ≤ MOST_CELLS }
     ensures { IfOk result (λ b. b ≡ cut (at s.now) full n) }
 {
     let mut heights = Vec::new(alloc);

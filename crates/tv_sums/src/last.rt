@@ -48,6 +48,7 @@ pub fn first_heights<C: Ring>(
     Ok(all)
 }
 
+// Adds the row of the slice to that of its heights.
 fn push_first<C: Ring>(
     alloc: Global,
     legs: &Legs,

@@ -13,7 +13,7 @@ pub fn empty_row<C: Ring>(alloc: Global) -> Row<C>
     ensures reached { result.reached.items ≡ [] }
 {
     Row {
-        least: 4294967295,
+        least: u32::MAX,
         counts: Vec::new(alloc),
         reached: Vec::new(alloc),
     }
