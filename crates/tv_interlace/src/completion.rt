@@ -61,8 +61,8 @@ fn above(a: &Slice, legs: &Legs, t: i32, d: u32) -> u64
     total
 }
 
-// How many of the cells over (x, y) below that height are in no leg.
-fn beside(legs: &Legs, x: u32, height: u32, y: u32) -> u32
+/// How many of the cells over (x, y) below that height are in no leg.
+pub fn beside(legs: &Legs, x: u32, height: u32, y: u32) -> u32
     ensures { result ≡ beside legs.now x height y }
 {
     if legs.along_z.contains(x, y) {

@@ -11,7 +11,7 @@ use std::alloc::Global;
 use std::marker::Model;
 use tv_cells::legs::Legs;
 use tv_ring::{Ring, RingFault};
-use tv_slices::counts::{diagonal_at, first_table};
+use tv_slices::first::{diagonal_at, first_table};
 use tv_slices::table::next_table;
 
 /// The entries of the diagonals of a corner, seen as its legs and the number of boxes.

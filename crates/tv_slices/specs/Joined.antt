@@ -1,5 +1,6 @@
--- A row and what is pushed to it.
+-- Rows that are added: two of them, and a row and what is pushed to it.
 --
+-- IsSum r a b x len new == new has the first numbers and marks of both, those of b with cost x more, and the least of both
 -- counts_of old       == its numbers, none where there is no row
 -- reached_of old      == its marks, none where there is no row
 -- IsJoined r old row x len new == new has both, and no lower cost than the least of both
@@ -16,6 +17,11 @@ counts_of (Some row) = row.counts.items
 abbrev pub reached_of : {A : Type 0} → Option (Row A) → List Bool
 reached_of None = []
 reached_of (Some row) = row.reached.items
+
+pub record IsSum {A : Type 0} (r : Operations A) (a b : Row A) (x len : ℕ) (new : Row A) : Type 0 where
+  pub counts : new.counts.items ≡ listed (sums r a.counts.items b.counts.items x) len
+  pub reached : new.reached.items ≡ listed (either_reached a.reached.items b.reached.items x) len
+  pub least : new.least ≡ min a.least (b.least + x)
 
 pub record IsJoined {A : Type 0} (r : Operations A) (old : Option (Row A)) (row : Row A) (x len : ℕ) (new : Row A) : Type 0 where
   pub counts : new.counts.items ≡ listed (sums r (counts_of old) row.counts.items x) len

@@ -3,7 +3,7 @@
 #![tactic(auto)]
 
 pub mod bare;
-pub mod counts;
+pub mod first;
 pub mod row;
 pub mod table;
 #[cfg(test)]

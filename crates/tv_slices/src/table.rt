@@ -12,7 +12,7 @@ ghost use Rattle.tv_spec_slices.specs.Slices.{Shape, fits};
 ghost use Rattle.tv_spec_slices.specs.Paths.{ways_at};
 ghost use Rattle.tv_slices.specs.Tables.{known, ways_to, HasRow, IsTable, Pushes, with_one, with_slice, IsTooMany};
 
-use crate::row::{Row, added, either};
+use crate::row::{Row, empty_row, row_sum};
 use indexmap::IndexMap;
 use std::alloc::Global;
 use tv_cells::legs::Legs;
@@ -87,36 +87,8 @@ fn joined<C: Ring>(
     ensures wide { IsErrOf result RingFault.Wide → (e : ℕ) × (e < len) × (limit < C.ring.size (at C.ring (counts_of (option_copied old.entry)) e) + C.ring.size (shifted C.ring row.now.counts.items x e)) }
 {
     match old {
-        Some(before) => {
-            let counts = added(
-                alloc,
-                before.counts.as_slice(),
-                row.counts.as_slice(),
-                x,
-                len,
-            )?;
-            let reached = either(
-                alloc,
-                before.reached.as_slice(),
-                row.reached.as_slice(),
-                x,
-                len,
-            )?;
-            Ok(Row {
-                least: before.least.min(row.least + x),
-                counts,
-                reached,
-            })
-        }
-        None => {
-            let counts = added(alloc, &[], row.counts.as_slice(), x, len)?;
-            let reached = either(alloc, &[], row.reached.as_slice(), x, len)?;
-            Ok(Row {
-                least: row.least + x,
-                counts,
-                reached,
-            })
-        }
+        Some(before) => row_sum(alloc, before, row, x, len),
+        None => row_sum(alloc, &empty_row(alloc), row, x, len),
     }
 }
 

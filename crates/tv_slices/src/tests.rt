@@ -1,6 +1,7 @@
 //! The first steps of the tables beside no legs.
 
-use crate::counts::{diagonal_at, first_table, row_of};
+use crate::first::{diagonal_at, first_table};
+use crate::row::row_of;
 use crate::table::next_table;
 use std::test::Fail;
 use tv_cells::legs::Legs;

@@ -12,7 +12,7 @@ use Rattle.tv_laws_sums.specs.Sums.{through, kept}
 use Rattle.tv_laws_sums.proofs.Replaced.{place-inside}
 use Rattle.tv_slices.specs.declared.row.Row.{Row}
 use Rattle.tv_sums.specs.declared.plan.Plan.{Plan}
-use Rattle.tv_sums.specs.Plans.{left_at, is_fit, are_fit}
+use Rattle.tv_sums.specs.Plans.{left, is_fit, are_fit}
 use Rattle.tv_sums.specs.Keys.{key, IsKey, opened}
 use Rattle.tv_sums.specs.Parts.{kept_in, ways_in, all_done, has_key, grouped, IsPart}
 use Rattle.tv_sums.proofs.Parted.{part-turned}
@@ -54,5 +54,5 @@ part-whole r legs t plan i slices table next done laws inside low part all found
     by s is fit false e = inr (λ c few.
         let own = put-own (at s) (spot plan i) in
         let fit_old = (and_parts (are_fit legs plan i (at s)) (is_fit legs plan (spot plan i) (at s (spot plan i))) (sym (fit-after legs plan i (at s (spot plan i)) (at s) inside) ∙ (ap (are_fit legs plan (suc i)) own ∙ fit))).0 in
-        subst (λ f. c < kept plan.k (left_at legs plan (suc i) f) → through legs plan.k t plan.top plan.n (suc i) slices f c ≡ 0) own
+        subst (λ f. c < kept plan.k (left legs plan (suc i) f) → through legs plan.k t plan.top plan.n (suc i) slices f c ≡ 0) own
         (group-none r legs t plan i slices table laws inside low part (at s) (at s (spot plan i)) c is.low (key-past plan.top plan.n s is) fit_old (λ y l. none s is e y l (has_key table (key (put (at s) (spot plan i) y) plan.n)) refl)) few)

@@ -20,7 +20,7 @@ use Rattle.tv_laws_sums.proofs.Replaced.{place-inside}
 use Rattle.tv_slices.specs.declared.row.Row.{Row}
 use Rattle.tv_slices.specs.Tables.{HasRow}
 use Rattle.tv_sums.specs.declared.plan.Plan.{Plan}
-use Rattle.tv_sums.specs.Plans.{over_at, left_at, are_fit}
+use Rattle.tv_sums.specs.Plans.{over_at, left, are_fit}
 use Rattle.tv_sums.specs.Keys.{key, IsKey, opened}
 use Rattle.tv_sums.specs.Parts.{kept_in, ways_in, all_done, has_key, IsPart}
 use Rattle.tv_sums.proofs.Keyed.{at-key, key-is, key-past, put-none, put-low}
@@ -100,16 +100,16 @@ module _ {A : Type 0} (r : Operations A) (legs : Legs) (t : ℤ) (plan : Plan) (
   Bare h = (y : ℕ) → y ≤ plan.top → has_key table (key (put h (spot plan i) y) plan.n) ≡ false
 
   old-none : (h : ℕ → ℕ) (y c : ℕ) → ((d : ℕ) → h d ≤ plan.top) → ((d : ℕ) → plan.n ≤ d → h d ≡ 0) → are_fit legs plan i h ≡ true → y ≤ plan.top → has_key table (key (put h (spot plan i) y) plan.n) ≡ false →
-      c < kept plan.k (left_at legs plan i (put h (spot plan i) y)) → through legs plan.k t plan.top plan.n i slices (put h (spot plan i) y) c ≡ 0
+      c < kept plan.k (left legs plan i (put h (spot plan i) y)) → through legs plan.k t plan.top plan.n i slices (put h (spot plan i) y) c ≡ 0
   old-none h y c low none fit l bare few =
       let p = spot plan i in let b = key (put h p y) plan.n in
       let e : at b ≡ put h p y = at-key (put h p y) plan.n (put-none h plan.n p y (place-inside plan.grows plan.n i inside) none) in
-      subst (λ f. c < kept plan.k (left_at legs plan i f) → through legs plan.k t plan.top plan.n i slices f c ≡ 0) e
+      subst (λ f. c < kept plan.k (left legs plan i f) → through legs plan.k t plan.top plan.n i slices f c ≡ 0) e
       (none-at ((c : ℕ) → c < kept_in legs plan i b → ways_in legs t plan i slices b c ≡ 0) (HasRow r (ways_in legs t plan i slices b) (kept_in legs plan i b)) (lookup (same_shape b) table) bare
       (part.each b (key-is plan.top plan.n (put h p y) (put-low h plan.top p y low l)) (ap (are_fit legs plan i) e ∙ (fit-before legs plan i y h inside ∙ fit))) c) few
 
   pub group-none : (h : ℕ → ℕ) (y c : ℕ) → ((d : ℕ) → h d ≤ plan.top) → ((d : ℕ) → plan.n ≤ d → h d ≡ 0) → are_fit legs plan i h ≡ true →
-      ((y : ℕ) → y ≤ plan.top → has_key table (key (put h (spot plan i) y) plan.n) ≡ false) → c < kept plan.k (left_at legs plan (suc i) (put h (spot plan i) y)) → through legs plan.k t plan.top plan.n (suc i) slices (put h (spot plan i) y) c ≡ 0
+      ((y : ℕ) → y ≤ plan.top → has_key table (key (put h (spot plan i) y) plan.n) ≡ false) → c < kept plan.k (left legs plan (suc i) (put h (spot plan i) y)) → through legs plan.k t plan.top plan.n (suc i) slices (put h (spot plan i) y) c ≡ 0
   group-none h y c low none fit bare few = by (cases_lt y (lowest h (spot plan i))) (cases_lt (highest plan.top h (spot plan i)) y)
     where
       p : ℕ
@@ -134,11 +134,11 @@ module _ {A : Type 0} (r : Operations A) (legs : Legs) (t : ℤ) (plan : Plan) (
           x : ℕ
           x = over_at legs plan (spot plan i) (met_in plan i h j)
 
-          long : kept plan.k (left_at legs plan (suc i) (put h (spot plan i) (met_in plan i h j))) ≤ kept plan.k (left_at legs plan i (put h (spot plan i) (met_in plan i h j))) + x
+          long : kept plan.k (left legs plan (suc i) (put h (spot plan i) (met_in plan i h j))) ≤ kept plan.k (left legs plan i (put h (spot plan i) (met_in plan i h j))) + x
           long = height-long r legs t plan i slices h laws inside j l
 
-          few_j : c < kept plan.k (left_at legs plan (suc i) (put h (spot plan i) (met_in plan i h j)))
-          few_j = subst (λ v. c < kept plan.k (left_at legs plan (suc i) (put h (spot plan i) v))) e few
+          few_j : c < kept plan.k (left legs plan (suc i) (put h (spot plan i) (met_in plan i h j)))
+          few_j = subst (λ v. c < kept plan.k (left legs plan (suc i) (put h (spot plan i) v))) e few
 
           smaller : (a b x m n : ℕ) → a ≤ b → c < n → n ≤ (suc plan.k - b) + x → x ≤ c → c - x < suc plan.k - a
           smaller a b x m n l f g q = omega arith
@@ -147,7 +147,7 @@ module _ {A : Type 0} (r : Operations A) (legs : Legs) (t : ℤ) (plan : Plan) (
           each q m from far =
               let fewer : bottom + m ≤ most = omega arith in
               old-none h (met_in plan i h m) (c - x) low none fit (under (met_in plan i h m) most plan.top (nth-under plan.grows bottom most m fewer) (before-under plan.top p h low)) (bare (met_in plan i h m) (under (met_in plan i h m) most plan.top (nth-under plan.grows bottom most m fewer) (before-under plan.top p h low)))
-              (smaller (left_at legs plan i (put h p (met_in plan i h m))) (left_at legs plan i (put h p (met_in plan i h j))) x m _ (laws.rises i h m j inside (omega arith)) few_j long q)
+              (smaller (left legs plan i (put h p (met_in plan i h m))) (left legs plan i (put h p (met_in plan i h j))) x m _ (laws.rises i h m j inside (omega arith)) few_j long q)
 
           by_cost : (c < x) ⊎ (x ≤ c) → charged (sums_to legs t plan i slices h (suc j)) x c ≡ 0
           by_cost (inl less) = let off = lt-leb x c less in rw off refl

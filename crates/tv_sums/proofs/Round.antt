@@ -15,7 +15,7 @@ use Rattle.tv_laws_sums.proofs.Replaced.{place-inside, new-here, old-here, new-e
 use Rattle.tv_slices.specs.declared.row.Row.{Row}
 use Rattle.tv_slices.specs.Tables.{HasRow}
 use Rattle.tv_sums.specs.declared.plan.Plan.{Plan}
-use Rattle.tv_sums.specs.Plans.{over_at, left_at, is_fit, are_fit}
+use Rattle.tv_sums.specs.Plans.{over_at, left, is_fit, are_fit}
 use Rattle.tv_sums.specs.Keys.{key, IsKey}
 use Rattle.tv_sums.specs.Added.{Tells}
 use Rattle.tv_sums.specs.Parts.{kept_in, ways_in, all_done, IsPart}
@@ -84,12 +84,12 @@ round r legs t plan i slices group done table old next sum new m laws inside low
     let fit_b : are_fit legs plan i (at b) ≡ true = ap (are_fit legs plan i) e ∙ (fit-before legs plan i y h inside ∙ fit) in
     let fit_after : are_fit legs plan (suc i) (at b) ≡ is_fit legs plan p (at b p) =
     ap (are_fit legs plan (suc i)) e ∙ (fit-after legs plan i y h inside ∙ (ap (λ q. q && is_fit legs plan p y) fit ∙ ap (is_fit legs plan p) (sym here))) in
-    let tells = subst (λ f. Tells r (sums_to legs t plan i slices h m) (kept plan.k (left_at legs plan i f)) sum) (sym e) (walk m (omega arith) few) in
+    let tells = subst (λ f. Tells r (sums_to legs t plan i slices h m) (kept plan.k (left legs plan i f)) sum) (sym e) (walk m (omega arith) few) in
     let more = summed (sums_to legs t plan i slices h m) (ways_in legs t plan i slices b) tells
     (strip ((c : ℕ) → c < kept_in legs plan i b → ways_in legs t plan i slices b c ≡ 0) (HasRow r (ways_in legs t plan i slices b) (kept_in legs plan i b)) (lookup (same_shape b) table) (part.each b is_b fit_b)) in
-    let after : IsWalk r legs t plan i slices h (suc m) new = walk-next r legs t plan i slices h laws inside m new (subst (λ f. Tells r (λ c. sums_to legs t plan i slices h m c + through legs plan.k t plan.top plan.n i slices f c) (kept plan.k (left_at legs plan i f)) new) e more) in
-    let n = kept plan.k (left_at legs plan i (put h p y)) in
-    let long : kept_in legs plan (suc i) b ≤ n + over_at legs plan p (at b p) = subst (λ v. kept_in legs plan (suc i) b ≤ n + over_at legs plan p v) (sym here) (subst (λ f. kept plan.k (left_at legs plan (suc i) f) ≤ n + over_at legs plan p y) (sym e) (height-long r legs t plan i slices h laws inside m few)) in
+    let after : IsWalk r legs t plan i slices h (suc m) new = walk-next r legs t plan i slices h laws inside m new (subst (λ f. Tells r (λ c. sums_to legs t plan i slices h m c + through legs plan.k t plan.top plan.n i slices f c) (kept plan.k (left legs plan i f)) new) e more) in
+    let n = kept plan.k (left legs plan i (put h p y)) in
+    let long : kept_in legs plan (suc i) b ≤ n + over_at legs plan p (at b p) = subst (λ v. kept_in legs plan (suc i) b ≤ n + over_at legs plan p v) (sym here) (subst (λ f. kept plan.k (left legs plan (suc i) f) ≤ n + over_at legs plan p y) (sym e) (height-long r legs t plan i slices h laws inside m few)) in
     let charge : (c : ℕ) → ways_in legs t plan (suc i) slices b c ≡ charged (sums_to legs t plan i slices h (suc m)) (over_at legs plan p (at b p)) c = λ c.
     ap (λ f. through legs plan.k t plan.top plan.n (suc i) slices f c) e ∙ (laws.running i slices h m c low_slices inside (key-past plan.top plan.n group is plan.n (omega arith)) few
     ∙ ap (λ v. charged (sums_to legs t plan i slices h (suc m)) (over_at legs plan p v) c) (sym here)) in

@@ -5,7 +5,7 @@
 -- tells-sum     the sum of two rows tells the sums
 -- row-sum       and it is the row of them
 use Rattle.std.proofs.Common.{◌≡◌, ℕ, ◌+◌, ◌-◌, ◌<◌, ◌≤◌, [], refl, sym, ◌∙◌, ap, arith, inl, inr}
-use Rattle.std.specs.Prelude.{◌&&◌, nat_lt, nat_le}
+use Rattle.std.specs.Prelude.{◌&&◌, nat_lt, nat_le, min}
 use Rattle.std.proofs.lemmas.Bool.{cases_lt, lt-leb, le-leb}
 use Rattle.tv_ring.specs.Operations.{Operations, RingLaws}
 use Rattle.tv_ring.specs.Sums.{at, times}
@@ -15,7 +15,8 @@ use Rattle.tv_slices.specs.declared.row.Row.{Row}
 use Rattle.tv_slices.specs.Rows.{shifted, is_reached}
 use Rattle.tv_slices.specs.Tables.{HasRow}
 use Rattle.tv_slices.proofs.Numbers.{shifted-none, shifted-some, sums-numbers, numbers-at, nothing-at, marks-at, marks-either, numbers-same, marks-same}
-use Rattle.tv_sums.specs.Added.{Tells, IsSum}
+use Rattle.tv_slices.specs.Joined.{IsSum}
+use Rattle.tv_sums.specs.Added.{Tells}
 
 pub charged-none : (f : ℕ → ℕ) (c : ℕ) → charged f 0 c ≡ f c
 charged-none f c = let on = le-leb 0 c (omega arith) in let e : c - 0 ≡ c = omega arith in rw on (ap f e)
@@ -71,7 +72,7 @@ module _ {A : Type 0} {IsValue : A → Type 0} {r : Operations A} (laws : RingLa
   row-sum f g h m n len x a b new first second short long is same = record {
     counts = is.counts ∙ (sums-numbers laws a.counts.items b.counts.items x len f (charged g x) (λ e l. first.counts e (omega arith)) (λ e l. shifted-tells r g n b x e second (omega arith)) ∙ numbers-same r (λ c. f c + charged g x c) h len (λ c l. sym (same c l)));
     reached = is.reached ∙ (marks-either a.reached.items b.reached.items x len f (charged g x) (λ e l. first.reached e (omega arith)) (λ e l. marks-tell r g n b x e second (omega arith)) ∙ marks-same (λ c. f c + charged g x c) h len (λ c l. sym (same c l)));
-    least = λ c l low. same c l ∙ both (f c) (charged g x c) (first.least c (omega arith) (under c new.least a.least low is.first)) (least-tells r g n b x c second (omega arith) (under c new.least (b.least + x) low is.second));
+    least = λ c l low. same c l ∙ both (f c) (charged g x c) (first.least c (omega arith) (under c new.least a.least low (lower new.least a.least (b.least + x) is.least).0)) (least-tells r g n b x c second (omega arith) (under c new.least (b.least + x) low (lower new.least a.least (b.least + x) is.least).1));
   }
     where
       both : (u v : ℕ) → u ≡ 0 → v ≡ 0 → u + v ≡ 0
@@ -79,3 +80,6 @@ module _ {A : Type 0} {IsValue : A → Type 0} {r : Operations A} (laws : RingLa
 
       under : (c u v : ℕ) → c < u → u ≤ v → c < v
       under c u v l m = omega arith
+
+      lower : (m u v : ℕ) → m ≡ min u v → (m ≤ u) × (m ≤ v)
+      lower m u v e = (omega arith, omega arith)

@@ -23,7 +23,7 @@ use Rattle.tv_laws_sums.proofs.Running.{running-sums, none-outside}
 use Rattle.tv_laws_sums.proofs.Left.{left-steps, left-rises}
 use Rattle.tv_slices.specs.declared.row.Row.{Row}
 use Rattle.tv_sums.specs.declared.plan.Plan.{Plan}
-use Rattle.tv_sums.specs.Plans.{plan_for, over_at, left_at}
+use Rattle.tv_sums.specs.Plans.{plan_for, over_at, left}
 use Rattle.tv_sums.specs.Keys.{key, IsKey, opened}
 use Rattle.tv_sums.specs.Added.{Tells}
 use Rattle.tv_sums.specs.Parts.{kept_in, ways_in, IsPart}
@@ -46,8 +46,8 @@ pub record IsLawful (legs : Legs) (t : ℤ) (plan : Plan) : Type 0 where
   pub outside : (i : ℕ) (slices : List Shape) (h : ℕ → ℕ) (y c : ℕ) → AreLow plan.top plan.n slices → i < plan.n → h plan.n ≡ 0 → (y < lowest h (spot plan i)) ⊎ (highest plan.top h (spot plan i) < y) →
       through legs plan.k t plan.top plan.n (suc i) slices (put h (spot plan i) y) c ≡ 0
   pub steps : (i : ℕ) (h : ℕ → ℕ) (j : ℕ) → i < plan.n → lowest h (spot plan i) + j ≤ highest plan.top h (spot plan i) →
-      left_at legs plan i (put h (spot plan i) (met_in plan i h j)) ≤ left_at legs plan (suc i) (put h (spot plan i) (met_in plan i h j)) + over_at legs plan (spot plan i) (met_in plan i h j)
-  pub rises : (i : ℕ) (h : ℕ → ℕ) (m j : ℕ) → i < plan.n → m ≤ j → left_at legs plan i (put h (spot plan i) (met_in plan i h m)) ≤ left_at legs plan i (put h (spot plan i) (met_in plan i h j))
+      left legs plan i (put h (spot plan i) (met_in plan i h j)) ≤ left legs plan (suc i) (put h (spot plan i) (met_in plan i h j)) + over_at legs plan (spot plan i) (met_in plan i h j)
+  pub rises : (i : ℕ) (h : ℕ → ℕ) (m j : ℕ) → i < plan.n → m ≤ j → left legs plan i (put h (spot plan i) (met_in plan i h m)) ≤ left legs plan i (put h (spot plan i) (met_in plan i h j))
 
 pub lawful-for : (legs : Legs) (k : ℕ) (t : ℤ) (top n : ℕ) → IsLawful legs t (plan_for k t top n)
 lawful-for legs k t top n = record {
@@ -95,19 +95,19 @@ passed-all g low high m y l = by g (cases_lt y low) (cases_lt high y)
 
 abbrev pub IsWalk : {A : Type 0} → Operations A → Legs → ℤ → Plan → ℕ → List Shape → (ℕ → ℕ) → ℕ → Row A → Type 0
 IsWalk r legs t plan i slices h m sum =
-    (j : ℕ) → m ≤ suc j → lowest h (spot plan i) + j ≤ highest plan.top h (spot plan i) → Tells r (sums_to legs t plan i slices h m) (kept plan.k (left_at legs plan i (put h (spot plan i) (met_in plan i h j)))) sum
+    (j : ℕ) → m ≤ suc j → lowest h (spot plan i) + j ≤ highest plan.top h (spot plan i) → Tells r (sums_to legs t plan i slices h m) (kept plan.k (left legs plan i (put h (spot plan i) (met_in plan i h j)))) sum
 
 module _ {A : Type 0} (r : Operations A) (legs : Legs) (t : ℤ) (plan : Plan) (i : ℕ) (slices : List Shape) (h : ℕ → ℕ) (laws : IsLawful legs t plan) (inside : i < plan.n) where
   pub walk-start : (row : Row A) → row.counts.items ≡ [] → row.reached.items ≡ [] → IsWalk r legs t plan i slices h 0 row
-  walk-start row none unmarked = λ j l few. tells-empty r (kept plan.k (left_at legs plan i (put h (spot plan i) (met_in plan i h j)))) row none unmarked
+  walk-start row none unmarked = λ j l few. tells-empty r (kept plan.k (left legs plan i (put h (spot plan i) (met_in plan i h j)))) row none unmarked
 
   pub walk-next : (m : ℕ) (new : Row A) →
-      Tells r (λ c. sums_to legs t plan i slices h m c + through legs plan.k t plan.top plan.n i slices (put h (spot plan i) (met_in plan i h m)) c) (kept plan.k (left_at legs plan i (put h (spot plan i) (met_in plan i h m)))) new →
+      Tells r (λ c. sums_to legs t plan i slices h m c + through legs plan.k t plan.top plan.n i slices (put h (spot plan i) (met_in plan i h m)) c) (kept plan.k (left legs plan i (put h (spot plan i) (met_in plan i h m)))) new →
       IsWalk r legs t plan i slices h (suc m) new
   walk-next m new tells = λ j l few.
       tells-fewer r (λ c. sums_to legs t plan i slices h m c + through legs plan.k t plan.top plan.n i slices (put h (spot plan i) (met_in plan i h m)) c) (sums_to legs t plan i slices h (suc m))
-      (kept plan.k (left_at legs plan i (put h (spot plan i) (met_in plan i h j)))) (kept plan.k (left_at legs plan i (put h (spot plan i) (met_in plan i h m)))) new
-      (fewer (left_at legs plan i (put h (spot plan i) (met_in plan i h m))) (left_at legs plan i (put h (spot plan i) (met_in plan i h j))) (laws.rises i h m j inside (omega arith)))
+      (kept plan.k (left legs plan i (put h (spot plan i) (met_in plan i h j)))) (kept plan.k (left legs plan i (put h (spot plan i) (met_in plan i h m)))) new
+      (fewer (left legs plan i (put h (spot plan i) (met_in plan i h m))) (left legs plan i (put h (spot plan i) (met_in plan i h j))) (laws.rises i h m j inside (omega arith)))
       (λ c f. turned (sums_to legs t plan i slices h m c) (through legs plan.k t plan.top plan.n i slices (put h (spot plan i) (met_in plan i h m)) c)
       ∙ sym (sum_of-last (λ j. through legs plan.k t plan.top plan.n i slices (put h (spot plan i) (met_in plan i h j)) c) m)) tells
     where
@@ -118,8 +118,8 @@ module _ {A : Type 0} (r : Operations A) (legs : Legs) (t : ℤ) (plan : Plan) (
       turned a b = omega arith
 
   pub height-long : (m : ℕ) → lowest h (spot plan i) + m ≤ highest plan.top h (spot plan i) →
-      kept plan.k (left_at legs plan (suc i) (put h (spot plan i) (met_in plan i h m))) ≤ kept plan.k (left_at legs plan i (put h (spot plan i) (met_in plan i h m))) + over_at legs plan (spot plan i) (met_in plan i h m)
-  height-long m few = long (left_at legs plan i (put h (spot plan i) (met_in plan i h m))) (left_at legs plan (suc i) (put h (spot plan i) (met_in plan i h m))) (over_at legs plan (spot plan i) (met_in plan i h m)) (laws.steps i h m inside few)
+      kept plan.k (left legs plan (suc i) (put h (spot plan i) (met_in plan i h m))) ≤ kept plan.k (left legs plan i (put h (spot plan i) (met_in plan i h m))) + over_at legs plan (spot plan i) (met_in plan i h m)
+  height-long m few = long (left legs plan i (put h (spot plan i) (met_in plan i h m))) (left legs plan (suc i) (put h (spot plan i) (met_in plan i h m))) (over_at legs plan (spot plan i) (met_in plan i h m)) (laws.steps i h m inside few)
     where
       long : (a b x : ℕ) → a ≤ b + x → suc plan.k - b ≤ (suc plan.k - a) + x
       long a b x l = omega arith

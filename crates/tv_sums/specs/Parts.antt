@@ -6,11 +6,12 @@
 -- kept_in legs plan i s == how many costs of the heights of s are kept
 -- all_done s          == every key is done
 -- has_key rows s      == the rows have s as a key
--- grouped plan i rows s == they have it when its height at the place that is replaced after i others is 0
--- IsPart r legs t plan i slices done rows == each key that has a row has that of its ways; to each other one that fits and is done
---                     no ways lead, as far as they are kept
--- IsEnd r legs t plan slices done rows == each slice above diagonal t that has a row fits, has at most k extras and the row of what
---                     comes to it; to each other one whose heights are done nothing comes, as far as it is kept
+-- grouped plan i rows s == the rows have, as a key, s with height 0 at the place that is replaced after i others
+-- IsPart r legs t plan i slices done rows == each key is one of fitting new heights; of these keys each that has a row has that of
+--                     its ways, and to each other one that is done no ways lead, as far as they are kept
+-- IsEnd r legs t plan slices done rows == each slice that has a row fits above diagonal t, is low and has at most k extras; of these
+--                     slices each that has a row has that of what comes to it, and to each other one whose heights are done
+--                     nothing comes, as far as it is kept
 use Rattle.std.specs.Prelude.{◌≡◌, ℕ, ◌<◌, ◌≤◌, ℤ, pos, ◌+ℤ◌, Bool, true, cond, List, MatchOption, is_some}
 use Rattle.std.specs.List.{AllByRecursion}
 use Rattle.std.specs.Map.{lookup}
@@ -25,7 +26,7 @@ use Rattle.tv_laws_sums.specs.Laws.{IsLow}
 use Rattle.tv_slices.specs.declared.row.Row.{Row}
 use Rattle.tv_slices.specs.Tables.{known, HasRow}
 use Rattle.tv_sums.specs.declared.plan.Plan.{Plan}
-use Rattle.tv_sums.specs.Plans.{left_at, are_fit}
+use Rattle.tv_sums.specs.Plans.{left, are_fit}
 use Rattle.tv_sums.specs.Keys.{key, IsKey, opened}
 
 abbrev pub ways_in : Legs → ℤ → Plan → ℕ → List Shape → Shape → ℕ → ℕ
@@ -36,7 +37,7 @@ summed legs k t slices s c =
     cond (fits legs (t +ℤ pos 1) s) (sum_of (λ a. cond (interlaces t a s) (charged (ways_at legs k t a) (extras_of legs (t +ℤ pos 1) s) c) 0) slices) 0
 
 abbrev pub kept_in : Legs → Plan → ℕ → Shape → ℕ
-kept_in legs plan i s = kept plan.k (left_at legs plan i (at s))
+kept_in legs plan i s = kept plan.k (left legs plan i (at s))
 
 abbrev pub all_done : Shape → Bool
 all_done s = true

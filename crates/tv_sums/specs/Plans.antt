@@ -2,9 +2,9 @@
 --
 -- plan_for k t top n     == the plan of the diagonal above t
 -- IsSmall plan           == its numbers are small enough to be added
--- over_at legs plan d y  == by how much the height y at place d is higher than the legs
+-- over_at legs plan d y  == by how much the height y at place d is higher than the legs; 0 in the leg along z
 -- taken_at legs plan d y == how many extras it takes above the diagonal
--- left_in legs plan i h d, left_at legs plan i h == what the heights h leave at place d, and at all, where i places are replaced
+-- left_at legs plan i h d, left legs plan i h == what the heights h leave at place d, and at all, where i places are replaced
 -- is_fit legs plan d y   == the height y can stand at place d: it has no end in the leg along z, and is no lower than the legs elsewhere
 -- are_fit legs plan i h  == so are all new heights
 -- is_slice legs plan h   == the heights are those of a slice that fits the legs
@@ -35,11 +35,11 @@ over_at legs plan d y = cond (has legs.along_z (d + plan.x) (d + plan.y)) 0 (y -
 abbrev pub taken_at : Legs → Plan → ℕ → ℕ → ℕ
 taken_at legs plan d y = upright legs (d + plan.x) (d + plan.y) y
 
-abbrev pub left_in : Legs → Plan → ℕ → (ℕ → ℕ) → ℕ → ℕ
-left_in legs plan i h d = cond (is_new plan.grows plan.n i d) (taken_at legs plan d (h d)) (over_at legs plan d (least_at plan.grows h d) + taken_at legs plan d (least_at plan.grows h d))
+abbrev pub left_at : Legs → Plan → ℕ → (ℕ → ℕ) → ℕ → ℕ
+left_at legs plan i h d = cond (is_new plan.grows plan.n i d) (taken_at legs plan d (h d)) (over_at legs plan d (least_at plan.grows h d) + taken_at legs plan d (least_at plan.grows h d))
 
-abbrev pub left_at : Legs → Plan → ℕ → (ℕ → ℕ) → ℕ
-left_at legs plan i h = sum_of (left_in legs plan i h) (below plan.n)
+abbrev pub left : Legs → Plan → ℕ → (ℕ → ℕ) → ℕ
+left legs plan i h = sum_of (left_at legs plan i h) (below plan.n)
 
 abbrev pub is_fit : Legs → Plan → ℕ → ℕ → Bool
 is_fit legs plan d y = cond (has legs.along_z (d + plan.x) (d + plan.y)) (nat_eq y plan.top) (nat_le (base legs (d + plan.x) (d + plan.y)) y)

@@ -13,8 +13,8 @@ use tv_cells::legs::Legs;
 use tv_interlace::slice::Slice;
 use tv_ring::{Ring, RingFault};
 use tv_slices::bare::bare_slice;
-use tv_slices::counts::{diagonal_at, first_table, row_of};
-use tv_slices::row::Row;
+use tv_slices::first::{diagonal_at, first_table};
+use tv_slices::row::{Row, row_of};
 
 /// The numbers of sets of 0, 1, .., k extras beside the legs, times one.
 pub fn slice_counts<C: Ring>(alloc: Global, legs: &Legs, k: u32) -> Result<Vec<C>, RingFault>

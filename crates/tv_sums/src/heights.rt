@@ -14,14 +14,13 @@ ghost use Rattle.tv_sums.specs.Parts.{kept_in, ways_in, all_done, IsPart};
 
 use crate::key::with_height;
 use crate::plan::{Plan, nth, place};
-use crate::rows::{empty_row, row_sum};
 use crate::weights::{is_fit, kept_in, over_at};
 use indexmap::IndexMap;
 use std::alloc::Global;
 use tv_cells::legs::Legs;
 use tv_interlace::slice::Slice;
 use tv_ring::{Ring, RingFault};
-use tv_slices::row::Row;
+use tv_slices::row::{Row, empty_row, row_sum};
 
 /// Puts each height that the neighbours of the place let stand there, with the sums of the numbers of the heights met so far.
 pub fn push_heights<C: Ring>(
@@ -49,6 +48,7 @@ pub fn push_heights<C: Ring>(
     Ok(())
 }
 
+// The greatest height that can stand at place p.
 fn highest(plan: Plan, group: &Slice, p: u32) -> u32
     ensures { result ≡ highest plan.top (at group.now) p }
 {

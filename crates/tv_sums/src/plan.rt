@@ -10,12 +10,12 @@ pub struct Plan {
     pub k: u32,
     /// Whether slices grow towards the diagonal; then the last place is the first to be replaced.
     pub grows: bool,
-    /// Where the diagonal begins.
+    /// The coordinates of place 0 on the diagonal; those of place d are greater by d.
     pub x: u32,
     pub y: u32,
     /// The height of a column without end, greater than any other.
     pub top: u32,
-    /// How many places there are.
+    /// How many places are replaced: one more than the longest slice has.
     pub n: u32,
 }
 

@@ -10,9 +10,9 @@ ghost use Rattle.tv_laws_sums.specs.Laws.{AreLow};
 ghost use Rattle.tv_slices.specs.Tables.{ways_to, IsTable};
 ghost use Rattle.tv_sums.specs.Plans.{plan_for, IsSmall};
 
-use crate::last::{first_heights, last_slices};
 use crate::places::replaced;
 use crate::plan::Plan;
+use crate::slices::{first_heights, last_slices};
 use indexmap::IndexMap;
 use std::alloc::Global;
 use tv_cells::legs::Legs;
@@ -22,7 +22,8 @@ use tv_ring::{Ring, RingFault};
 use tv_slices::row::Row;
 use tv_slices::table::next_table;
 
-/// The table of the diagonal above t, of that of t.
+/// The table of the slices of diagonal t + 1 that have at most k extras, from that of diagonal t, by running sums; where one of
+/// these is too wide, by neighbours. Wide only where a count, times the size of one, exceeds the limit.
 pub fn next_table_by_sums<C: Ring>(
     alloc: Global,
     legs: &Legs,
@@ -39,11 +40,13 @@ pub fn next_table_by_sums<C: Ring>(
     ensures wide { IsErrOf result RingFault.Wide → (i : ℕ) × (i ≤ k) × (limit < count legs.now i * C.ring.size C.ring.unit) }
 {
     match by_sums(alloc, legs, k, t, table) {
+        // A running sum can exceed the limit where no count does.
         Err(RingFault::Wide) => next_table(alloc, legs, k, t, table),
         other => other,
     }
 }
 
+// The same, or Wide where a running sum is.
 fn by_sums<C: Ring>(
     alloc: Global,
     legs: &Legs,
@@ -59,6 +62,7 @@ fn by_sums<C: Ring>(
     ensures value { IfOk result (λ next. IsTable C.ring legs.now k (t +ℤ pos 1) (ways_to legs.now k (t +ℤ pos 1)) next.entries) }
 {
     legs.known();
+    // Tells that the keys are distinct.
     let _ = table.len();
     let plan = plan_above(legs, k, t, table);
     let mut heights = first_heights(alloc, legs, plan, table)?;

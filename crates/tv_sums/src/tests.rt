@@ -8,7 +8,8 @@ use tv_cells::legs::Legs;
 use tv_interlace::slice::Slice;
 use tv_partition::diagram::Diagram;
 use tv_ring::Whole;
-use tv_slices::counts::{diagonal_at, first_table, row_of};
+use tv_slices::first::{diagonal_at, first_table};
+use tv_slices::row::row_of;
 
 fn legs_of(alloc: Global, x: &[u32], y: &[u32], z: &[u32]) -> Result<Legs, Fail> {
     Ok(Legs {

@@ -2,7 +2,7 @@ use Rattle.std.proofs.Common.{◌≡◌, ℕ, ◌+◌, ◌<◌, sym, ap, subst, 
 use Rattle.std.specs.Prelude.{MatchOption}
 use Rattle.std.proofs.lemmas.Result.{IfOk-weaker}
 use Rattle.tv_slices.specs.Tables.{HasRow}
-use Rattle.tv_sums.specs.Added.{IsSum}
+use Rattle.tv_slices.specs.Joined.{IsSum}
 use Rattle.tv_sums.specs.Parts.{kept_in}
 use Rattle.tv_sums.proofs.Told.{tells-row, row-sum, charged-none}
 use Rattle.tv_sums.proofs.heights.more.Goals as goal
@@ -16,4 +16,4 @@ returns-in-Some g c =
     let has : HasRow r h k c.in-Some.row.now = subst (λ o. MatchOption o ((e : ℕ) → e < k → h e ≡ 0) (HasRow r h k)) (sym c.in-Some.ensures.value) matched in
     tells-row r (λ e. f e + h e) k new
     (row-sum g.met.C.Ring.laws f h (λ e. f e + h e) k k k 0 c.args.sum c.in-Some.row.now new tells (tells-row r h k c.in-Some.row.now has) (omega arith) (omega arith)
-    (subst (λ n. IsSum r c.args.sum c.in-Some.row.now 0 n new) same is) (λ e l. ap (λ v. f e + v) (sym (charged-none h e))))) c.row_sum.ensures
+    (subst (λ n. IsSum r c.args.sum c.in-Some.row.now 0 n new) same is) (λ e l. ap (λ v. f e + v) (sym (charged-none h e))))) c.row_sum.ensures.value

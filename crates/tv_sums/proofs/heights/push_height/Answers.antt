@@ -1,8 +1,8 @@
 use Rattle.std.proofs.Common.{◌≡◌, ℕ, ◌+◌, ◌-◌, ◌≤◌, suc, true, sym, ap, ◌∙◌, subst, arith}
 use Rattle.tv_spec_slices.specs.Slices.{at}
-use Rattle.tv_sums.specs.Plans.{over_at, left_at, is_fit}
+use Rattle.tv_sums.specs.Plans.{over_at, left, is_fit}
 use Rattle.tv_sums.specs.Parts.{kept_in, ways_in}
-use Rattle.tv_sums.specs.Added.{IsSum}
+use Rattle.tv_slices.specs.Joined.{IsSum}
 use Rattle.tv_sums.proofs.Told.{least-beyond, row-sum, tells-empty}
 use Rattle.tv_sums.proofs.Parted.{part-stays, part-put}
 use Rattle.tv_sums.proofs.heights.push_height.Goals as goal
@@ -15,7 +15,7 @@ pub returns-then-least-plan : goal.returns-then-least-plan
 returns-then-least-plan g c = λ t slices done f n is fit tells long charge part.
     let x = over_at c.args.legs.now c.args.plan c.args.p (at c.args.key c.args.p) in
     let cost : c.over_at-cost.result ≡ x = c.over_at-cost.ensures ∙ ap (over_at c.args.legs.now c.args.plan c.args.p) c.at-y.ensures in
-    let most = most-kept c.args.plan.k (left_at c.args.legs.now c.args.plan (suc c.args.i) (at c.args.key)) in
+    let most = most-kept c.args.plan.k (left c.args.legs.now c.args.plan (suc c.args.i) (at c.args.key)) in
     let far : kept_in c.args.legs.now c.args.plan (suc c.args.i) c.args.key ≤ c.args.sum.now.least + c.over_at-cost.result = omega (arith, c.saturating_add-least.ensures, c.if-least-plan.true) in
     part-stays g.C.Ring.ring c.args.legs.now t c.args.plan (suc c.args.i) slices done c.args.key c.args.next.now.entries (λ fitting e l.
     charge e ∙ least-beyond g.C.Ring.ring f n (kept_in c.args.legs.now c.args.plan (suc c.args.i) c.args.key) c.args.sum.now x tells long (subst (λ v. kept_in c.args.legs.now c.args.plan (suc c.args.i) c.args.key ≤ c.args.sum.now.least + v) cost far) e l) part
@@ -42,7 +42,7 @@ returns g c = λ t slices done f n is fit tells long charge part.
     let fits : c.is_fit.result ≡ true = cc in
     let fitting = fit ∙ (sym (c.is_fit.ensures ∙ ap (is_fit c.args.legs.now c.args.plan c.args.p) c.at-y.ensures) ∙ fits) in
     let row = c.in_ok-row.row in
-    let sum = subst (λ n. IsSum r c.empty_row.result c.args.sum.now x n row) len (subst (λ v. IsSum r c.empty_row.result c.args.sum.now v c.kept_in-len.result row) cost c.in_ok-row.ensures) in
+    let sum = subst (λ n. IsSum r c.empty_row.result c.args.sum.now x n row) len (subst (λ v. IsSum r c.empty_row.result c.args.sum.now v c.kept_in-len.result row) cost c.in_ok-row.ensures.value) in
     let has = row-sum g.met.C.Ring.laws (λ e. 0) f (ways_in c.args.legs.now t c.args.plan (suc c.args.i) slices c.args.key) kept n kept x c.empty_row.result c.args.sum.now row
     (tells-empty r kept c.empty_row.result c.empty_row.ensures.counts c.empty_row.ensures.reached) tells (omega arith) long sum (λ e l. charge e ∙ omega arith) in
     part-put r c.args.legs.now t c.args.plan (suc c.args.i) slices done c.args.key row c.args.next.now.entries c.insert.new.self.entries is fitting c.in_ok-insert.ensures.updates.0 c.in_ok-insert.ensures.entries has part
