@@ -1,9 +1,10 @@
--- The product of the series of the first corners: its coefficients, its sizes and its reaches.
-use Rattle.std.proofs.Common.{◌≡◌, ℕ, zero, suc, ◌+◌, ◌-◌, ◌*◌, ◌^◌, ◌<◌, ◌≤◌, min, cond, List, [], length, take, get_or, refl, sym, ◌∙◌, ap, arith, le_trans, inl, inr}
+-- The product of the series of some corners: its coefficients, its sizes and its reaches, and one corner more.
+use Rattle.std.proofs.Common.{◌≡◌, ℕ, zero, suc, ◌-◌, ◌*◌, ◌^◌, ◌<◌, ◌≤◌, min, cond, List, [], ◌∷◌, ◌++◌, map, length, refl, sym, ◌∙◌, ap, arith, le_trans, inl, inr}
 use Rattle.std.specs.Prelude.{ℤ, pos, ◌+ℤ◌, ◌-ℤ◌, unsigned_abs, nat_eq}
 use Rattle.std.specs.Int.{int_min}
 use Rattle.std.proofs.lemmas.Int.{ints}
 use Rattle.std.proofs.lemmas.Nat.{mul-le}
+use Rattle.std.proofs.lemmas.List.{map-append}
 use Rattle.std.proofs.lemmas.Bool.Decides.{nat_tests}
 use Rattle.tv_ring.specs.Operations.{Operations, RingLaws, SizeLaws, limit}
 use Rattle.tv_ring.specs.Sums.{at, convolution, size_term, size_convolution, times}
@@ -11,7 +12,8 @@ use Rattle.tv_ring.proofs.Sums.{total_below-≤}
 use Rattle.tv_ring.proofs.Products.{convolution-same, size_term_is, size_convolution_is}
 use Rattle.tv_ring.proofs.Times.{times-none, times-one}
 use Rattle.tv_ring.proofs.Sizes.{size-times, reach-times}
-use Rattle.tv_laws_series.specs.Terms.{Terms, listed}
+use Rattle.tv_lemmas.proofs.Members.{all-contains}
+use Rattle.tv_laws_series.specs.Terms.{Terms, listed, IsWithin}
 use Rattle.tv_laws_series.specs.Series.{series_product, product_upto}
 use Rattle.tv_laws_series.proofs.Listed.{length-listed, at-listed, listed_all}
 use Rattle.tv_laws_series.proofs.SeriesFrom.{terms-same}
@@ -20,10 +22,10 @@ use Rattle.tv_cells.specs.declared.legs.Legs.{Legs}
 use Rattle.tv_cells.specs.Extras.{count}
 use Rattle.tv_vertex.specs.Corners.{extras_times, corner_terms}
 use Rattle.tv_vertex.proofs.Corners.{extras_times-is}
-use Rattle.tv_laws_counts.specs.Ways.{split, convolved, corner_ways}
-use Rattle.tv_laws_counts.proofs.Convolutions.{split_is, convolved_is, total_below-times}
+use Rattle.tv_laws_counts.specs.Ways.{split, convolved, ways, corner_ways}
+use Rattle.tv_laws_counts.proofs.Convolutions.{split_is, convolved_is, total_below-times, ways_last}
 use Rattle.tv_laws_counts.proofs.InRings.{multiples, convolution-multiples}
-use Rattle.tv_laws_counts.proofs.CornerWays.{front-none, front-next}
+use Rattle.tv_laws_counts.proofs.CornerWays.{front-none, front-all, ways-front, ways-each}
 use Rattle.tv_assigned_series.specs.Terms.{front_times, front_terms, IsBeyond}
 
 pub front_times-is : {A : Type 0} (r : Operations A) (legs : List Legs) (i : ℕ) → front_times r legs i ≡ times r (corner_ways legs i)
@@ -41,6 +43,24 @@ unit-later r i none h e = e ∙ sym (front_times-is r [] i ∙ (ap (times r) (fr
     past : (i : ℕ) → 0 < i → cond {A = ℕ} (nat_eq i 0) 1 0 ≡ 0
     past zero h = absurd (omega arith)
     past (suc i) h = grind (arith, nat_tests)
+
+-- one corner more, at the end
+next-ways : (front : List Legs) (corner : Legs) (i : ℕ) → corner_ways (front ++ corner ∷ []) i ≡ convolved (corner_ways front) (count corner) i
+next-ways front corner i = ap (λ cs. ways cs i) (map-append count front (corner ∷ [])) ∙ ways_last (map count front) (count corner) i
+
+-- too many over all of some corners
+pub all-beyond : {A : Type 0} (r : Operations A) (legs : List Legs) (k boxes : ℕ) → boxes ≤ k → limit < corner_ways legs boxes * r.size r.unit → IsBeyond r legs k
+all-beyond r legs k boxes within beyond =
+    inl (record { corners = length legs; boxes = boxes; within = within; beyond = rw (front-all legs (length legs) boxes (omega arith)) beyond })
+
+-- fewer ways to split boxes are beyond the limit only where more are
+pub still-beyond : {A : Type 0} (r : Operations A) (legs more : List Legs) (k : ℕ) → ((i : ℕ) → corner_ways legs i ≤ corner_ways more i) → IsBeyond r legs k → IsBeyond r more k
+still-beyond r legs more k fewer (inl front) =
+    let first = ways-front front.corners legs front.boxes in let all = fewer front.boxes in
+    all-beyond r more k front.boxes front.within (le_trans front.beyond (mul-le _ (r.size r.unit) _ (r.size r.unit) (le_trans first all) (omega arith)))
+still-beyond r legs more k fewer (inr one) =
+    let first = all-contains (λ l. count l one.boxes ≤ corner_ways legs one.boxes) legs one.corner (ways-each legs one.boxes) one.listed in let all = fewer one.boxes in
+    all-beyond r more k one.boxes one.within (le_trans one.beyond (mul-le _ (r.size r.unit) _ (r.size r.unit) (le_trans first all) (omega arith)))
 
 -- the sum of products of multiples
 term-small : (x y m n u : ℕ) → x ≤ m * u → y ≤ n * u → u ≤ 1 → x * y ≤ (m * n) * u
@@ -60,9 +80,9 @@ module _ {A : Type 0} {IsValue : A → Type 0} {r : Operations A} (laws : RingLa
       (total_below-≤ (size_term r F G k) (λ i. split f g k i * r.size r.unit) (suc k) (λ i h. size-multiples F G f g k i (omega arith) ef eg))
 
   -- the coefficients of both factors
-  module _ (legs : List Legs) (t k j : ℕ) (corner : Legs) (a b : Terms A) (within : k ≤ j) (ea : a ≡ front_terms r (take t legs) k) (eb : b ≡ corner_terms r corner j) where
+  module _ (front : List Legs) (k j : ℕ) (corner : Legs) (a b : Terms A) (within : k ≤ j) (ea : a ≡ front_terms r front k) (eb : b ≡ corner_terms r corner j) where
     front-length : length a.coefficients ≡ suc k
-    front-length = ap (λ (s : Terms A). length s.coefficients) ea ∙ length-listed (front_times r (take t legs)) (suc k)
+    front-length = ap (λ (s : Terms A). length s.coefficients) ea ∙ length-listed (front_times r front) (suc k)
 
     corner-length : length b.coefficients ≡ suc j
     corner-length = ap (λ (s : Terms A). length s.coefficients) eb ∙ length-listed (extras_times r corner) (suc j)
@@ -70,13 +90,16 @@ module _ {A : Type 0} {IsValue : A → Type 0} {r : Operations A} (laws : RingLa
     lengths : min (length a.coefficients) (length b.coefficients) ≡ suc k
     lengths = let x = front-length in let y = corner-length in omega arith
 
-    front-at : (i : ℕ) → i ≤ k → at r a.coefficients i ≡ times r (corner_ways (take t legs) i)
-    front-at i h = ap (λ (s : Terms A). at r s.coefficients i) ea ∙ (at-listed r (front_times r (take t legs)) (suc k) i (omega arith) ∙ front_times-is r (take t legs) i)
+    front-at : (i : ℕ) → i ≤ k → at r a.coefficients i ≡ times r (corner_ways front i)
+    front-at i h = ap (λ (s : Terms A). at r s.coefficients i) ea ∙ (at-listed r (front_times r front) (suc k) i (omega arith) ∙ front_times-is r front i)
 
     corner-at : (i : ℕ) → i ≤ j → at r b.coefficients i ≡ times r (count corner i)
     corner-at i h = ap (λ (s : Terms A). at r s.coefficients i) eb ∙ (at-listed r (extras_times r corner) (suc j) i (omega arith) ∙ extras_times-is r corner i)
 
-    pub product-within : k < 2 ^ 29 → unsigned_abs (product_upto a b) ≤ 2 ^ 60
+    pub product-low : IsWithin (a.low +ℤ b.low)
+    product-low = rw (ap (λ (s : Terms A). s.low) ea, ap (λ (s : Terms A). s.low) eb) (omega (arith, ints))
+
+    pub product-within : k < 2 ^ 29 → IsWithin (product_upto a b)
     product-within h = rw (front-length, corner-length, ap (λ (s : Terms A). s.low) ea, ap (λ (s : Terms A). s.low) eb) (near k j h within)
       where
         near : (k j : ℕ) → k < 2 ^ 29 → k ≤ j → unsigned_abs (int_min (pos 0 +ℤ ((pos 0 +ℤ pos (suc j)) -ℤ pos 1)) (pos 0 +ℤ ((pos 0 +ℤ pos (suc k)) -ℤ pos 1))) ≤ 2 ^ 60
@@ -85,30 +108,23 @@ module _ {A : Type 0} {IsValue : A → Type 0} {r : Operations A} (laws : RingLa
     pub product-reaches : ReachesAddUp r a.coefficients b.coefficients
     product-reaches i l h m =
         let x = front-length in let y = corner-length in
-        rw (front-at i (omega arith), corner-at l (omega arith), reach-times laws sizes (corner_ways (take t legs) i), reach-times laws sizes (count corner l)) (omega arith)
+        rw (front-at i (omega arith), corner-at l (omega arith), reach-times laws sizes (corner_ways front i), reach-times laws sizes (count corner l)) (omega arith)
 
-    module _ (listed_at : t < length legs) (here : corner ≡ get_or legs t corner) where
-      next-ways : (i : ℕ) → corner_ways (take (t + 1) legs) i ≡ convolved (corner_ways (take t legs)) (count corner) i
-      next-ways i = front-next legs t i corner listed_at ∙ ap (λ l. convolved (corner_ways (take t legs)) (count l) i) (sym here)
+    product-at : (i : ℕ) → i ≤ k → convolution r (at r a.coefficients) (at r b.coefficients) i ≡ front_times r (front ++ corner ∷ []) i
+    product-at i h =
+        convolution-same r (at r a.coefficients) (multiples r (corner_ways front)) (at r b.coefficients) (multiples r (count corner)) i (λ m l. front-at m (omega arith)) (λ m l. corner-at m (omega arith))
+        ∙ (convolution-multiples laws (corner_ways front) (count corner) i
+        ∙ (ap (times r) (sym (next-ways front corner i)) ∙ sym (front_times-is r (front ++ corner ∷ []) i)))
 
-      product-at : (i : ℕ) → i ≤ k → convolution r (at r a.coefficients) (at r b.coefficients) i ≡ front_times r (take (t + 1) legs) i
-      product-at i h =
-          convolution-same r (at r a.coefficients) (multiples r (corner_ways (take t legs))) (at r b.coefficients) (multiples r (count corner)) i (λ m l. front-at m (omega arith)) (λ m l. corner-at m (omega arith))
-          ∙ (convolution-multiples laws (corner_ways (take t legs)) (count corner) i
-          ∙ (ap (times r) (sym (next-ways i)) ∙ sym (front_times-is r (take (t + 1) legs) i)))
+    pub product-is : series_product r a b ≡ front_terms r (front ++ corner ∷ []) k
+    product-is = terms-same (a.low +ℤ b.low) (pos 0) (listed (convolution r (at r a.coefficients) (at r b.coefficients)) (min (length a.coefficients) (length b.coefficients))) (listed (front_times r (front ++ corner ∷ [])) (suc k))
+        (rw (ap (λ (s : Terms A). s.low) ea, ap (λ (s : Terms A). s.low) eb) refl)
+        (rw lengths (listed_all r (front_times r (front ++ corner ∷ [])) (listed (convolution r (at r a.coefficients) (at r b.coefficients)) (suc k)) (suc k) (length-listed (convolution r (at r a.coefficients) (at r b.coefficients)) (suc k))
+        (λ i h. at-listed r (convolution r (at r a.coefficients) (at r b.coefficients)) (suc k) i h ∙ product-at i (omega arith))))
 
-      pub product-is : series_product r a b ≡ front_terms r (take (t + 1) legs) k
-      product-is = terms-same (a.low +ℤ b.low) (pos 0) (listed (convolution r (at r a.coefficients) (at r b.coefficients)) (min (length a.coefficients) (length b.coefficients))) (listed (front_times r (take (t + 1) legs)) (suc k))
-          (rw (ap (λ (s : Terms A). s.low) ea, ap (λ (s : Terms A). s.low) eb) refl)
-          (rw lengths (listed_all r (front_times r (take (t + 1) legs)) (listed (convolution r (at r a.coefficients) (at r b.coefficients)) (suc k)) (suc k) (length-listed (convolution r (at r a.coefficients) (at r b.coefficients)) (suc k))
-          (λ i h. at-listed r (convolution r (at r a.coefficients) (at r b.coefficients)) (suc k) i h ∙ product-at i (omega arith))))
-
-      pub product-wide : (n : ℤ) → IsProductWide r a b n → IsBeyond r legs k
-      product-wide n wide =
-          let place : wide.place ≤ k = let x = wide.within in let y = lengths in omega arith in
-          let size : size_convolution r (at r a.coefficients) (at r b.coefficients) wide.place ≤ corner_ways (take (t + 1) legs) wide.place * r.size r.unit =
-          rw (next-ways wide.place) (size_convolution-multiples (at r a.coefficients) (at r b.coefficients) (corner_ways (take t legs)) (count corner) wide.place (λ m l. front-at m (omega arith)) (λ m l. corner-at m (omega arith))) in
-          inl (record { corners = t + 1; boxes = wide.place; within = place; beyond = le_trans wide.wide size })
-
-      pub corner-wide : (i : ℕ) → i ≤ k → limit < count corner i * r.size r.unit → IsBeyond r legs k
-      corner-wide i h beyond = inr (record { corner = corner; listed = (t, listed_at, sym here); boxes = i; within = h; beyond = beyond })
+    pub product-wide : (n : ℤ) → IsProductWide r a b n → IsBeyond r (front ++ corner ∷ []) k
+    product-wide n wide =
+        let place : wide.place ≤ k = let x = wide.within in let y = lengths in omega arith in
+        let size : size_convolution r (at r a.coefficients) (at r b.coefficients) wide.place ≤ corner_ways (front ++ corner ∷ []) wide.place * r.size r.unit =
+        rw (next-ways front corner wide.place) (size_convolution-multiples (at r a.coefficients) (at r b.coefficients) (corner_ways front) (count corner) wide.place (λ m l. front-at m (omega arith)) (λ m l. corner-at m (omega arith))) in
+        all-beyond r (front ++ corner ∷ []) k wide.place place (le_trans wide.wide size)

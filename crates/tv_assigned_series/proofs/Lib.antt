@@ -7,5 +7,7 @@ pub mod Keeping
 mod Asking
 mod Prepared
 pub mod Fronts
+mod Gathered
+mod Powers
 mod WithSigns
 mod Assembled

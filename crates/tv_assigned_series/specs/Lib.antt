@@ -1,4 +1,5 @@
 pub mod Terms
+pub mod Empties
 pub mod Kept
 pub mod Asked
 pub mod Faults

@@ -4,23 +4,30 @@
 ghost use Rattle.std.specs.Prelude.{◌≡◌, ◌<◌, ◌≤◌, ◌*◌, ◌^◌, ℕ, [], Some, length, slice_get, IfOk, IsErrOf, OnErr, OnOk};
 ghost use Rattle.std.specs.Map.{values_of};
 ghost use Rattle.tv_ring.specs.Operations.{limit};
-ghost use Rattle.tv_cells.specs.Extras.{count};
+ghost use Rattle.tv_cells.specs.Extras.{count, empty_legs};
 ghost use Rattle.tv_images.specs.Least.{least};
+ghost use Rattle.tv_assigned_series.specs.Terms.{front_terms, IsBeyond};
+ghost use Rattle.tv_assigned_series.specs.Empties.{empties};
 ghost use Rattle.tv_assigned_series.specs.Kept.{IsPlaceOf, Keeps, KeepsMore};
 
+use crate::empties::Powers;
+use crate::steps::unit;
 use indexmap::IndexMap;
 use std::alloc::Global;
 use std::marker::Model;
 use tv_cells::legs::Legs;
 use tv_images::least_image;
 use tv_laurent::Series;
+use tv_partition::diagram::Diagram;
 use tv_ring::{Ring, RingFault};
 use tv_vertex::corner_series;
 
-/// The series that were asked for, each as far as it was asked for at most.
+/// The series that were asked for, each as far as it was asked for at most, and the powers of that of the corner without
+/// legs.
 #[derive(Drop)]
 pub struct Corners<C: Ring> {
     kept: IndexMap<Legs, Series<C>>,
+    powers: Powers<C>,
 }
 
 impl<C: Ring> Model for Corners<C> {
@@ -43,6 +50,7 @@ impl<C: Ring> Corners<C> {
     {
         Corners {
             kept: IndexMap::new(alloc),
+            powers: Powers::new(alloc),
         }
     }
 
@@ -94,5 +102,36 @@ impl<C: Ring> Corners<C> {
         ensures { slice_get (values_of self.now) place ≡ Some result.now }
     {
         &self.kept[place]
+    }
+
+    /// The product over `count` corners without legs, known through `k`.
+    pub(crate) fn empties(
+        &mut self,
+        alloc: Global,
+        count: usize,
+        k: u32,
+    ) -> Result<Series<C>, RingFault>
+        requires { k < 2 ^ 29 }
+        ensures value { IfOk result (λ s. s ≡ front_terms C.ring (empties count) k) }
+
+        // Wide only where the ways to split at most k boxes over some of them, or the count at one, exceed the limit.
+        ensures wide { IsErrOf result RingFault.Wide → IsBeyond C.ring (empties count) k }
+    {
+        if count == 0 {
+            return unit(alloc, k);
+        }
+        let place = self.place_under(alloc, &without_legs(alloc), k)?;
+        self.powers.power(alloc, &self.kept[place], count, k)
+    }
+}
+
+// The corner whose legs have no cell. It takes no memory.
+fn without_legs(alloc: Global) -> Legs
+    ensures { result ≡ empty_legs }
+{
+    Legs {
+        along_x: Diagram::empty(alloc),
+        along_y: Diagram::empty(alloc),
+        along_z: Diagram::empty(alloc),
     }
 }

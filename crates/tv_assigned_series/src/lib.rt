@@ -5,12 +5,14 @@
 mod asked;
 mod class;
 mod corners;
+mod empties;
 mod family_fault;
 mod fault;
 mod prepare;
 mod product;
 mod series;
 mod signs;
+mod steps;
 #[cfg(test)]
 mod tests;
 

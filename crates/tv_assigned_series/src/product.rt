@@ -1,10 +1,13 @@
-//! The product of the series of some corners, one after another: the ways to split boxes over them. It knows no edge.
+//! The product of the series of some corners: the ways to split boxes over them. Corners without legs come first, all at
+//! once, and the others one after another. It knows no edge.
 
-ghost use Rattle.std.specs.Prelude.{◌≡◌, ◌<◌, ◌≤◌, ◌+◌, ◌^◌, IfOk, IsErrOf, IsOkUnless, [], length, take};
+ghost use Rattle.std.specs.Prelude.{◌≡◌, ◌<◌, ◌≤◌, ◌^◌, IfOk, IsErrOf};
+ghost use Rattle.std.specs.List.{count_by};
 ghost use Rattle.tv_assigned_series.specs.Terms.{front_terms, IsBeyond};
+ghost use Rattle.tv_assigned_series.specs.Empties.{is_bare};
 
 use crate::corners::Corners;
-use crate::fault::without_exponent;
+use crate::steps::with_corner;
 use std::alloc::Global;
 use tv_cells::legs::Legs;
 use tv_laurent::Series;
@@ -23,46 +26,29 @@ pub fn product<C: Ring>(
     // Wide only where the ways to split at most k boxes over the first corners, or the count at one, exceed the limit.
     ensures wide { IsErrOf result RingFault.Wide → IsBeyond C.ring legs.now k }
 {
-    let mut product = unit(alloc, k)?;
-    for t in 0..legs.len() {
-        product = with_corner(alloc, corners, &product, legs, t, k)?;
+    let mut product = corners.empties(alloc, bare_count(legs), k)?;
+    for corner in legs {
+        if is_bare(corner) {
+            continue;
+        }
+        let place = corners.place_of(alloc, corner, k)?;
+        product = with_corner(&product, corners.at(place))?;
     }
     Ok(product)
 }
 
-// The product over no corner.
-fn unit<C: Ring>(alloc: Global, k: u32) -> Result<Series<C>, RingFault>
-    requires { k < 2 ^ 29 }
-    ensures value { IfOk result (λ s. s ≡ front_terms C.ring [] k) }
-    ensures never_wide { IsOkUnless result RingFault.Memory }
+// How many corners have no leg.
+fn bare_count(legs: &[Legs]) -> usize
+    ensures { result ≡ count_by is_bare legs.now }
 {
-    let mut coefficients = Vec::new(alloc);
-    coefficients.push(C::one(alloc)?)?;
-    for i in 1..k + 1 {
-        coefficients.push(C::zero(alloc)?)?;
-    }
-    Ok(Series::new(0, coefficients))
+    legs.iter().filter(|corner| is_bare(corner)).count()
 }
 
-// The product over one corner more.
-fn with_corner<C: Ring>(
-    alloc: Global,
-    corners: &mut Corners<C>,
-    product: &Series<C>,
-    legs: &[Legs],
-    t: usize,
-    k: u32,
-) -> Result<Series<C>, RingFault>
-    requires front { product.now ≡ front_terms C.ring (take t legs.now) k }
-    requires corner { t < length legs.now }
-    requires known { k < 2 ^ 29 }
-    ensures value { IfOk result (λ s. s ≡ front_terms C.ring (take (t + 1) legs.now) k) }
-    ensures wide { IsErrOf result RingFault.Wide → IsBeyond C.ring legs.now k }
+// Whether no leg of the corner has a cell.
+fn is_bare(corner: &Legs) -> bool
+    ensures { result ≡ is_bare corner.now }
 {
-    let place = corners.place_of(alloc, &legs[t], k)?;
-    let corner = corners.at(place);
-    match product.mul(corner) {
-        Ok(product) => Ok(product),
-        Err(fault) => Err(without_exponent(fault)),
-    }
+    corner.along_x.rows().is_empty()
+        && corner.along_y.rows().is_empty()
+        && corner.along_z.rows().is_empty()
 }

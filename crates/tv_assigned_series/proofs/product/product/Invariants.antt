@@ -1,6 +1,7 @@
-use Rattle.std.proofs.Common.{◌≡◌, take}
+use Rattle.std.proofs.Common.{◌≡◌}
 use Rattle.tv_assigned_series.specs.Terms.{front_terms}
+use Rattle.tv_assigned_series.proofs.Gathered.{gathered}
 use Rattle.tv_assigned_series.proofs.product.product.Given as goal
 
-abbrev pub invariant-loop-t : goal.invariant-loop-t
-invariant-loop-t g l = l.product ≡ front_terms g.C.Ring.ring (take l.t l.legs) l.k
+abbrev pub invariant-loop-corner : goal.invariant-loop-corner
+invariant-loop-corner g l = l.product ≡ front_terms g.C.Ring.ring (gathered l.legs l.corner-index) l.k

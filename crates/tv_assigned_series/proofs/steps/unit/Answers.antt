@@ -3,7 +3,7 @@ use Rattle.std.proofs.lemmas.Int.{ints}
 use Rattle.tv_laws_series.proofs.Listed.{listed-none, listed_push, length-listed}
 use Rattle.tv_assigned_series.specs.Terms.{front_times}
 use Rattle.tv_assigned_series.proofs.Fronts.{unit-first, unit-later}
-use Rattle.tv_assigned_series.proofs.product.unit.Goals as goal
+use Rattle.tv_assigned_series.proofs.steps.unit.Goals as goal
 
 pub loop-i-init : goal.loop-i-init
 loop-i-init g c = record {
