@@ -1,9 +1,10 @@
 -- Rows that are added: two of them, and a row and what is pushed to it.
 --
--- IsSum r a b x len new == new has the first numbers and marks of both, those of b with cost x more, and the least of both
--- counts_of old       == its numbers, none where there is no row
+-- IsSum r a b x len new == new's first len numbers are those of a and those of b that cost x more, added; its marks are either's,
+--                         and its least cost is the lesser of that of a and that of b plus x
+-- counts_of old       == the numbers of the old row, none where there is no row
 -- reached_of old      == its marks, none where there is no row
--- IsJoined r old row x len new == new has both, and no lower cost than the least of both
+-- IsJoined r old row x len new == new is this sum of the old row and the row, or of the row alone where there is no old one
 use Rattle.std.specs.Prelude.{◌≡◌, ℕ, ◌+◌, min, Bool, List, [], Option, None, Some, MatchOption}
 use Rattle.tv_ring.specs.Operations.{Operations}
 use Rattle.tv_laws_series.specs.Terms.{listed}

@@ -66,8 +66,8 @@ pub fn row_sum<C: Ring>(
     })
 }
 
-/// The numbers of ways of the first `len` costs: those before, and as many more that cost x more.
-pub fn added<C: Ring>(
+// The numbers of ways of the first `len` costs: those before, and as many more that cost x more.
+fn added<C: Ring>(
     alloc: Global,
     before: &[C],
     more: &[C],
@@ -117,8 +117,8 @@ pub fn copy_at<C: Ring>(alloc: Global, xs: &[C], e: u32) -> Result<C, RingFault>
     }
 }
 
-/// Whether there are ways of the first `len` costs: those before, or of those that cost x more.
-pub fn either(
+// Whether there are ways of the first `len` costs: those before, or of those that cost x more.
+fn either(
     alloc: Global,
     before: &[bool],
     more: &[bool],

@@ -34,7 +34,7 @@ use Rattle.tv_slices.proofs.Put.{row-same}
 use Rattle.tv_sums.specs.declared.plan.Plan.{Plan}
 use Rattle.tv_sums.specs.Plans.{plan_for, is_fit, are_fit}
 use Rattle.tv_sums.specs.Keys.{key, IsKey}
-use Rattle.tv_sums.specs.Added.{Tells}
+use Rattle.tv_sums.specs.Tells.{Tells}
 use Rattle.tv_sums.specs.Parts.{kept_in, ways_in, all_done, IsPart}
 use Rattle.tv_sums.proofs.Told.{charged-none, tells-fewer, tells-row}
 use Rattle.tv_sums.proofs.Parted.{all-put}

@@ -22,7 +22,7 @@ use Rattle.tv_slices.specs.declared.row.Row.{Row}
 use Rattle.tv_slices.specs.Tables.{known, HasRow, IsTable}
 use Rattle.tv_sums.specs.Plans.{plan_for, is_slice}
 use Rattle.tv_sums.specs.Keys.{key, IsKey}
-use Rattle.tv_sums.specs.Added.{Tells}
+use Rattle.tv_sums.specs.Tells.{Tells}
 use Rattle.tv_sums.specs.Parts.{kept_in, ways_in, summed, all_done, has_key, IsPart, IsEnd}
 use Rattle.tv_sums.proofs.Told.{tells-fewer, tells-row}
 use Rattle.tv_sums.proofs.Parted.{all-put}

@@ -17,7 +17,7 @@ use Rattle.tv_slices.specs.Tables.{HasRow}
 use Rattle.tv_sums.specs.declared.plan.Plan.{Plan}
 use Rattle.tv_sums.specs.Plans.{over_at, left, is_fit, are_fit}
 use Rattle.tv_sums.specs.Keys.{key, IsKey}
-use Rattle.tv_sums.specs.Added.{Tells}
+use Rattle.tv_sums.specs.Tells.{Tells}
 use Rattle.tv_sums.specs.Parts.{kept_in, ways_in, all_done, IsPart}
 use Rattle.tv_sums.proofs.Keyed.{at-key, key-is, key-past, put-none, put-low, put-own}
 use Rattle.tv_sums.proofs.Walked.{IsLawful, IsWalk, spot, met_in, sums_to, walk-next, height-long, walked, part-next}

@@ -16,7 +16,7 @@ use Rattle.tv_slices.specs.Rows.{shifted, is_reached}
 use Rattle.tv_slices.specs.Tables.{HasRow}
 use Rattle.tv_slices.proofs.Numbers.{shifted-none, shifted-some, sums-numbers, numbers-at, nothing-at, marks-at, marks-either, numbers-same, marks-same}
 use Rattle.tv_slices.specs.Joined.{IsSum}
-use Rattle.tv_sums.specs.Added.{Tells}
+use Rattle.tv_sums.specs.Tells.{Tells}
 
 pub charged-none : (f : ℕ → ℕ) (c : ℕ) → charged f 0 c ≡ f c
 charged-none f c = let on = le-leb 0 c (omega arith) in let e : c - 0 ≡ c = omega arith in rw on (ap f e)

@@ -25,7 +25,7 @@ use Rattle.tv_slices.specs.declared.row.Row.{Row}
 use Rattle.tv_sums.specs.declared.plan.Plan.{Plan}
 use Rattle.tv_sums.specs.Plans.{plan_for, over_at, left}
 use Rattle.tv_sums.specs.Keys.{key, IsKey, opened}
-use Rattle.tv_sums.specs.Added.{Tells}
+use Rattle.tv_sums.specs.Tells.{Tells}
 use Rattle.tv_sums.specs.Parts.{kept_in, ways_in, IsPart}
 use Rattle.tv_sums.proofs.Told.{tells-fewer, tells-empty}
 use Rattle.tv_sums.proofs.Parted.{part-turned}

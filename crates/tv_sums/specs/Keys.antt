@@ -4,7 +4,7 @@
 -- IsKey top n s  == the slice is such a key, of heights that are at most top
 -- opened plan i s == the key s with height 0 at the place that is replaced after i others
 -- cut_from h d n == the heights h d, .., h (d + n - 1), up to the first 0
--- cut h full n   == the slice of these heights: full places without end, and the heights behind them up to the first 0
+-- cut h full n   == the slice with full places without end, and behind them the heights before place n, up to the first 0
 use Rattle.std.specs.Prelude.{◌≡◌, ℕ, zero, suc, ◌-◌, ◌≤◌, cond, nat_eq, List, [], ◌∷◌, length}
 use Rattle.tv_laws_series.specs.Terms.{listed}
 use Rattle.tv_spec_slices.specs.Slices.{Shape, at}

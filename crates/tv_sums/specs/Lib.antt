@@ -1,4 +1,4 @@
 pub mod Plans
 pub mod Keys
-pub mod Added
+pub mod Tells
 pub mod Parts

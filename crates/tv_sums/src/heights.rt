@@ -1,6 +1,6 @@
 //! One place of given heights gets its new heights, one after the other, and the numbers are added up along them.
 
-ghost use Rattle.std.specs.Prelude.{◌≡◌, ℕ, suc, ◌+◌, ◌<◌, ◌≤◌, ◌^◌, ℤ, List, Bool, true, ◌||◌, MatchOption, IfOk, OnOk};
+ghost use Rattle.std.specs.Prelude.{◌≡◌, ℕ, suc, ◌+◌, ◌<◌, ◌-◌, ◌≤◌, ◌^◌, ℤ, List, length, min, Bool, true, ◌||◌, MatchOption, IfOk, OnOk};
 ghost use Rattle.std.specs.Map.{lookup};
 ghost use Rattle.tv_spec_slices.specs.Slices.{Shape, at, same_shape};
 ghost use Rattle.tv_laws_sums.specs.Mixed.{place, highest};
@@ -9,7 +9,7 @@ ghost use Rattle.tv_laws_sums.specs.Laws.{AreLow};
 ghost use Rattle.tv_slices.specs.Tables.{HasRow};
 ghost use Rattle.tv_sums.specs.Plans.{plan_for, IsSmall, over_at, is_fit, are_fit};
 ghost use Rattle.tv_sums.specs.Keys.{IsKey, opened};
-ghost use Rattle.tv_sums.specs.Added.{Tells};
+ghost use Rattle.tv_sums.specs.Tells.{Tells};
 ghost use Rattle.tv_sums.specs.Parts.{kept_in, ways_in, all_done, IsPart};
 
 use crate::key::with_height;
@@ -48,7 +48,7 @@ pub fn push_heights<C: Ring>(
     Ok(())
 }
 
-// The greatest height that can stand at place p.
+// The greatest height that the neighbour of place p allows there.
 fn highest(plan: Plan, group: &Slice, p: u32) -> u32
     ensures { result ≡ highest plan.top (at group.now) p }
 {
@@ -70,9 +70,16 @@ fn more<C: Ring>(
     ensures { IfOk result (λ new. (f g : ℕ → ℕ) → Tells C.ring f (kept_in legs.now plan i key.now) sum → MatchOption (lookup (same_shape key.now) table.now.entries) ((c : ℕ) → c < kept_in legs.now plan i key.now → g c ≡ 0) (HasRow C.ring g (kept_in legs.now plan i key.now)) → Tells C.ring (λ c. f c + g c) (kept_in legs.now plan i key.now) new) }
 {
     match table.get(key) {
-        Some(row) => row_sum(alloc, &sum, row, 0, kept_in(legs, plan, i, key)),
+        Some(row) => row_sum(alloc, &sum, row, 0, costs_of(row)),
         None => Ok(sum),
     }
+}
+
+// How many costs the row tells: those that are kept of its heights.
+fn costs_of<C: Ring>(row: &Row<C>) -> u32
+    ensures { result ≡ min (length row.now.counts.items) (2 ^ 32 - 1) }
+{
+    row.counts.as_slice().len().min(u32::MAX as usize) as u32
 }
 
 // Puts the sum for the new heights, if they fit and some of its costs are kept.

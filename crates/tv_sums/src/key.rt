@@ -46,7 +46,7 @@ fn height_at(s: &Slice, p: u32, y: u32, d: u32) -> u32
     if d == p { y } else { s.at(d) }
 }
 
-/// The slice with that many places without end, and the heights of s behind them.
+/// The slice with that many places without end, and behind them the heights of s before place n, up to the first 0.
 pub fn cut(alloc: Global, s: &Slice, full: u32, n: u32) -> Result<Slice, AllocError>
     requires short { n < 2 ^ 30 }
     requires front { full ≤ MOST_CELLS }

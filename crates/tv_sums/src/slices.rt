@@ -11,7 +11,7 @@ ghost use Rattle.tv_laws_sums.specs.Laws.{IsLow, AreLow};
 ghost use Rattle.tv_slices.specs.Tables.{known, ways_to, HasRow, IsTable};
 ghost use Rattle.tv_sums.specs.Plans.{plan_for, IsSmall, is_fit, is_slice};
 ghost use Rattle.tv_sums.specs.Keys.{IsKey};
-ghost use Rattle.tv_sums.specs.Added.{Tells};
+ghost use Rattle.tv_sums.specs.Tells.{Tells};
 ghost use Rattle.tv_sums.specs.Parts.{kept_in, ways_in, all_done, summed, IsPart, IsEnd};
 
 use crate::key::{cut, key_of};

@@ -22,8 +22,8 @@ use tv_ring::{Ring, RingFault};
 use tv_slices::row::Row;
 use tv_slices::table::next_table;
 
-/// The table of the slices of diagonal t + 1 that have at most k extras, from that of diagonal t, by running sums; where one of
-/// these is too wide, by neighbours. Wide only where a count, times the size of one, exceeds the limit.
+/// The table of the ways up to the slices of diagonal t + 1, from that of diagonal t, by running sums; where one of these is too
+/// wide, by neighbours. Wide only where a count of at most k boxes, times the size of one, exceeds the limit.
 pub fn next_table_by_sums<C: Ring>(
     alloc: Global,
     legs: &Legs,

@@ -10,7 +10,7 @@ use Rattle.tv_slices.specs.Tables.{HasRow}
 use Rattle.tv_slices.proofs.Put.{row-same}
 use Rattle.tv_sums.specs.Plans.{plan_for}
 use Rattle.tv_sums.specs.Keys.{key}
-use Rattle.tv_sums.specs.Added.{Tells}
+use Rattle.tv_sums.specs.Tells.{Tells}
 use Rattle.tv_sums.specs.Parts.{kept_in, ways_in, all_done, IsPart}
 use Rattle.tv_sums.proofs.First.{more-own, more-tells, part-more, own-before}
 use Rattle.tv_sums.proofs.slices.push_first.Goals as goal

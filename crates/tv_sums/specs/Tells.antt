@@ -1,7 +1,7 @@
 -- What a row of numbers tells.
 --
--- Tells r f n row      == the row's numbers are f 0, .., f (n - 1), its marks tell which are above 0, and those below its least
---                         cost are 0; it can have more
+-- Tells r f n row      == the row's first numbers are f 0, .., f (n - 1), times one, its marks tell which are above 0, and those
+--                         below its least cost are 0; it can have more
 use Rattle.std.specs.Prelude.{◌≡◌, ℕ, ◌<◌, nat_lt}
 use Rattle.tv_ring.specs.Operations.{Operations}
 use Rattle.tv_ring.specs.Sums.{at, times}
