@@ -1,11 +1,10 @@
 -- The least image is one of the six, so it has the counts of the legs.
-use Rattle.std.specs.Prelude.{◌≡◌, ℕ, Bool, true, false, cond, List, [], ◌∷◌}
+use Rattle.std.specs.Prelude.{◌≡◌, Bool, true, false, cond, List, [], ◌∷◌}
 use Rattle.std.specs.List.{AllByRecursion}
-use Rattle.std.proofs.Common.{refl, ◌∙◌}
+use Rattle.std.proofs.Common.{refl}
 use Rattle.tv_cells.specs.declared.legs.Legs.{Legs}
 use Rattle.tv_cells.specs.Extras.{AreDiagrams, count}
 use Rattle.tv_laws_symmetry.specs.Symmetry.{exchanged_xy, exchanged_yz}
-use Rattle.tv_laws_symmetry.proofs.Exchanges.{exchanged_count}
 use Rattle.tv_laws_symmetry.proofs.Images.{all_images, count-kept}
 use Rattle.tv_images.specs.Least.{legs_before, first_of, first_among, least, HasCountsOf}
 

@@ -1,2 +1,3 @@
+pub mod Corners
 pub mod Least
 pub mod Rows

@@ -1,5 +1,6 @@
 -- The one of the six images of a corner's legs that stands for all of them.
 --
+-- is_empty legs     == no leg has a row
 -- rows_before u v   == at the first row where the diagrams differ that of u is the lesser, or u has none there
 -- legs_before a b   == a has more cells along z than b, or as many, and the rows of the first legs that differ are before those
 --                      of b: those along z, along x and along y
@@ -7,12 +8,15 @@
 -- first_among a bs  == the first of a and of those in bs
 -- least legs        == the first of the six images of the legs
 -- HasCountsOf legs image == as many sets of extras, of any number, are beside the image as beside the legs
-use Rattle.std.specs.Prelude.{◌≡◌, ℕ, Bool, true, false, cond, ◌&&◌, ◌||◌, nat_eq, nat_lt, List, [], ◌∷◌}
+use Rattle.std.specs.Prelude.{◌≡◌, ℕ, Bool, true, false, cond, ◌&&◌, ◌||◌, ◌==◌, nat_eq, nat_lt, List, [], ◌∷◌, length}
 use Rattle.std.specs.Cmp.Lexicographic.{pointwise}
 use Rattle.tv_partition.specs.Rows.{size}
 use Rattle.tv_cells.specs.declared.legs.Legs.{Legs}
 use Rattle.tv_cells.specs.Extras.{count}
 use Rattle.tv_laws_symmetry.specs.Symmetry.{exchanged_xy, exchanged_yz}
+
+abbrev pub is_empty : Legs → Bool
+is_empty legs = ((length legs.along_x == 0) && (length legs.along_y == 0)) && (length legs.along_z == 0)
 
 abbrev pub rows_before : List ℕ → List ℕ → Bool
 rows_before u [] = false

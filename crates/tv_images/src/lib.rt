@@ -7,4 +7,4 @@ mod order;
 #[cfg(test)]
 mod tests;
 
-pub use image::least_image;
+pub use image::{is_empty, least_image};

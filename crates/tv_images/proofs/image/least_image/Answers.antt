@@ -1,5 +1,9 @@
-use Rattle.std.proofs.Common.{◌≡◌, ◌∙◌, ap, rules}
+use Rattle.std.proofs.Common.{◌≡◌, sym, ◌∙◌, ap, rules}
+use Rattle.std.specs.Prelude.{IfOk}
+use Rattle.std.proofs.lemmas.Result.{IfOk-weaker}
 use Rattle.tv_cells.specs.Extras.{count}
+use Rattle.tv_images.specs.Least.{least}
+use Rattle.tv_images.proofs.Corners.{least-empty}
 use Rattle.tv_images.proofs.Least.{least-counts, least-is}
 use Rattle.tv_images.proofs.image.least_image.Goals as goal
 
@@ -11,3 +15,8 @@ returns-clause-value c =
 
 pub returns-clause-counts : goal.returns-clause-counts
 returns-clause-counts c = λ i. ap (λ image. count image i) (returns-clause-value c) ∙ least-counts c.args.legs.now c.known.ensures.diagrams i
+
+pub returns-then-is_empty-clause-value : goal.returns-then-is_empty-clause-value
+returns-then-is_empty-clause-value c =
+    let copied : IfOk c.clone.result (λ copy. copy ≡ c.args.legs.now) = search rules in
+    IfOk-weaker c.clone.result (λ copy. copy ≡ c.args.legs.now) (λ copy. copy ≡ least c.args.legs.now) (λ copy is. is ∙ least-empty c.args.legs.now (sym c.if-is_empty.ensures)) copied
