@@ -1,13 +1,13 @@
 -- The legs of the corners where no open edge has any.
 use Rattle.std.proofs.Common.{◌≡◌, ℕ, zero, suc, ◌+◌, ◌<◌, List, [], ◌∷◌, ◌++◌, map, length, take, get_or, refl, sym, ◌∙◌, ap}
-use Rattle.std.proofs.lemmas.List.{take_more, map-append}
+use Rattle.std.proofs.lemmas.List.{take_more, map-append, get_or-map}
 use Rattle.tv_spec_plane.specs.declared.records.OuterEdge.{OuterEdge}
 use Rattle.tv_spec_plane.specs.declared.records.EdgeRef.{EdgeRef}
 use Rattle.tv_spec_plane.specs.declared.records.EdgeRef.TheVariants.{Compact, Outer}
 use Rattle.tv_spec_plane.specs.declared.records.Corner.{Corner}
 use Rattle.tv_spec_plane.specs.Web.{Web, outer, corners}
 use Rattle.tv_cells.specs.declared.legs.Legs.{Legs}
-use Rattle.tv_spec_boxes.specs.Assignments.{Rows, Assignment, legs_of, rows_at, no_legs}
+use Rattle.tv_spec_boxes.specs.Assignments.{Rows, Assignment, legs_of, all_legs, rows_at, no_legs}
 
 empty : OuterEdge → Rows
 empty e = []
@@ -34,3 +34,7 @@ legs-next w a k d cs legs now next h here is pushed before =
     ∙ (ap (λ l. map f (take k cs) ++ l ∷ []) (is ∙ legs-open w a (get_or cs k d))
     ∙ (sym (ap (map f) (take_more cs k d h) ∙ map-append f (take k cs) (get_or cs k d ∷ []))
     ∙ ap (λ ds. map f (take (k + 1) ds)) here)))
+
+pub legs-there : (w : Web) (a : Assignment) (k : ℕ) (d : Corner) (cs : List Corner) (none legs : Legs) → k < length cs → cs ≡ corners w → legs ≡ legs_of a [] (get_or cs k d) → legs ≡ get_or (all_legs w a (no_legs w)) k none
+legs-there w a k d cs none legs h here is =
+    is ∙ (legs-open w a (get_or cs k d) ∙ (sym (get_or-map (legs_of a (no_legs w)) cs k d none h) ∙ ap (λ ds. get_or (map (legs_of a (no_legs w)) ds) k none) here))

@@ -1,8 +1,9 @@
 //! The legs of each corner of an assignment: the diagrams of its compact edges, and none on its open ones. They are copies,
 //! so that they outlive it.
 
-ghost use Rattle.std.specs.Prelude.{◌≡◌, ◌≤◌, [], IfOk, length};
+ghost use Rattle.std.specs.Prelude.{◌≡◌, ◌<◌, ◌≤◌, [], IfOk, length, slice_index_or};
 ghost use Rattle.tv_spec_plane.specs.Web.{corners};
+ghost use Rattle.tv_cells.specs.Extras.{empty_legs};
 ghost use Rattle.tv_spec_boxes.specs.Assignments.{all_legs, legs_of, rows_at, no_legs};
 
 use crate::assignment::Assignment;
@@ -28,6 +29,19 @@ pub fn all_legs(
         all.push(legs_of(alloc, assignment, corner)?)?;
     }
     Ok(all)
+}
+
+/// The legs of corner number `t`, counted from 0.
+pub fn legs_at(
+    alloc: Global,
+    web: &GradedWeb,
+    assignment: &Assignment,
+    t: u32,
+) -> Result<Legs, AllocError>
+    requires { t < length (corners web.now) }
+    ensures { IfOk result (λ legs. legs ≡ slice_index_or (all_legs web.now assignment.now (no_legs web.now)) t empty_legs) }
+{
+    legs_of(alloc, assignment, &web.corners()[t as usize])
 }
 
 // Tells that there are at most as many corners as triangles can be, and does nothing.

@@ -1,10 +1,10 @@
-//! Every assignment of degree at most a bound, written into a vector: edge by edge, of two diagrams on an edge the one of
-//! fewer cells first. It knows no class.
+//! Every choice of diagrams on some edges, sizes times degrees at most a bound together, written into a vector: edge by edge,
+//! of two diagrams on an edge the one of fewer cells first. It knows no class.
 
 ghost use Rattle.std.specs.Prelude.{◌≡◌, ◌<◌, ◌≤◌, ◌+◌, ◌*◌, ◌-◌, ◌++◌, ◌∷◌, [], true, false, map, length, IfOk, OnOk, MatchOption, nat_le};
 ghost use Rattle.tv_spec_plane.specs.Web.{compact, edge_degree};
 ghost use Rattle.tv_degrees.specs.Edges.{edge_at};
-ghost use Rattle.tv_spec_boxes.specs.Assignments.{assignments, choices};
+ghost use Rattle.tv_spec_boxes.specs.Assignments.{choices};
 ghost use Rattle.tv_lemmas.specs.Naturals.{as_natural};
 ghost use Rattle.tv_assignment.specs.Listing.{behind, sized, degrees_of, AreSizes};
 
@@ -14,16 +14,6 @@ use tv_degrees::grade::GradedWeb;
 use tv_partition::all::{Diagrams, all_of};
 use tv_partition::diagram::Diagram;
 use tv_spec_plane::limits::GREATEST_DEGREE;
-
-/// Every assignment of degree at most `d`, each once, in the order of `assignments`.
-pub fn assignments_of(alloc: Global, web: &GradedWeb, d: u32) -> Result<Vec<Assignment>, AllocError>
-    requires { d ≤ GREATEST_DEGREE }
-    ensures { IfOk result (λ all. all.items ≡ assignments web.now d) }
-{
-    let degrees = degrees_of(alloc, web)?;
-    let all = choices_of(alloc, &degrees, d)?;
-    Ok(all)
-}
 
 /// A diagram for each of these degrees, sizes times degrees at most `d` together: every choice, each once, in the order of
 /// `choices`.

@@ -4,7 +4,7 @@
 ghost use Rattle.std.specs.Prelude.{◌≡◌, ◌≤◌, IfOk, length};
 ghost use Rattle.tv_assignment.specs.Size.{cells_of};
 
-use crate::{Assignment, all_legs, assignments_of, start_of};
+use crate::{Assignment, all_legs, choices_of, degrees_of, legs_at, start_of};
 use std::alloc::Global;
 use std::test::Fail;
 use tv_degrees::grade::{GradedWeb, grade};
@@ -44,9 +44,10 @@ fn on_one_edge(alloc: Global, rows: &[u32]) -> Result<Assignment, Fail>
 }
 
 #[test]
-fn lists_assignments(rt: HostRuntime) -> Result<(), Fail> {
+fn lists_choices(rt: HostRuntime) -> Result<(), Fail> {
     let web = conifold(rt.alloc())?;
-    let all = assignments_of(rt.alloc(), &web, 2)?;
+    let degrees = degrees_of(rt.alloc(), &web)?;
+    let all = choices_of(rt.alloc(), &degrees, 2)?;
     assert_eq!(rt; all.len(), 4);
     let last = all.last().ok_or("the last")?;
     let column = last.diagrams().first().ok_or("a diagram")?;
@@ -63,5 +64,17 @@ fn starts_one_cell(rt: HostRuntime) -> Result<(), Fail> {
     let line = on_one_edge(rt.alloc(), &[1])?;
     let legs = all_legs(rt.alloc(), &web, &line)?;
     assert_eq!(rt; (legs.len(), start_of(&web, &line, &legs)), (2, 1));
+    Ok(())
+}
+
+#[test]
+fn takes_the_legs_of_one_corner(rt: HostRuntime) -> Result<(), Fail> {
+    let web = conifold(rt.alloc())?;
+    if web.corners().len() != 2 {
+        return Err("two corners".into());
+    }
+    let line = on_one_edge(rt.alloc(), &[1])?;
+    let all = all_legs(rt.alloc(), &web, &line)?;
+    assert!(rt; all.get(1) == Some(&legs_at(rt.alloc(), &web, &line, 1)?));
     Ok(())
 }
