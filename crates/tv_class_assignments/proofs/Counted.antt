@@ -1,7 +1,7 @@
 -- Each step leaves fewer.
-use Rattle.std.specs.Prelude.{◌≡◌, ℕ, zero, suc, ◌+◌, ◌-◌, ◌*◌, ◌<◌, ◌≤◌, List, [], ◌∷◌, length, drop}
+use Rattle.std.specs.Prelude.{◌≡◌, ℕ, zero, suc, ◌+◌, ◌-◌, ◌*◌, ◌<◌, ◌≤◌, [], ◌∷◌, length, drop}
 use Rattle.std.specs.List.{range_with_len}
-use Rattle.std.proofs.Common.{refl, ap, ◌∙◌, arith, add-one, length-drop}
+use Rattle.std.proofs.Common.{ap, ◌∙◌, arith, add-one, length-drop}
 use Rattle.tv_lemmas.specs.Sums.{sum_of}
 use Rattle.tv_partition.specs.Rows.{diagrams}
 use Rattle.tv_class_assignments.specs.Remaining.{Left}

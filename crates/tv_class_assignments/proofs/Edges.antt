@@ -5,7 +5,7 @@ use Rattle.std.proofs.Common.{refl, sym, ap, ◌∙◌, arith, append_assoc, add
 use Rattle.std.proofs.Math.Seq.{drop-cons}
 use Rattle.std.proofs.lemmas.Nat.{mul-le}
 use Rattle.std.proofs.lemmas.Bool.Decides.{nat_tests}
-use Rattle.tv_lemmas.specs.Naturals.{as_natural, below}
+use Rattle.tv_lemmas.specs.Naturals.{as_natural}
 use Rattle.tv_spec_plane.specs.declared.records.CompactEdge.{CompactEdge}
 use Rattle.tv_spec_plane.specs.Web.{Web, edge_degree}
 use Rattle.tv_partition.specs.Rows.{diagrams}
@@ -15,11 +15,11 @@ use Rattle.tv_class_assignments.specs.Walk.{with_left, with_diagrams, beside_on,
 use Rattle.tv_class_assignments.proofs.Lefts.{with_left-edge}
 
 -- all of an edge
-pub from-first : (w : Web) (e : CompactEdge) (es : List CompactEdge) (l : Left) → length l.class ≡ length w.points → from w e es l 0 0 ≡ with_left w (e ∷ es) l
+pub from-first : (w : Web) (e : CompactEdge) (es : List CompactEdge) (l : Left) → length l.class ≤ length w.points → from w e es l 0 0 ≡ with_left w (e ∷ es) l
 unfolding from
-from-first w e es l one =
+from-first w e es l asked =
     let whole : l.degree - 0 ≡ l.degree = omega arith in
-    sym (with_left-edge w e es l one ∙ (rw whole refl))
+    sym (with_left-edge w e es l asked ∙ (rw whole refl))
 
 -- ---- too many cells
 

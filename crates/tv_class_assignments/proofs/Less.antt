@@ -1,5 +1,5 @@
 -- Entries less a multiple, one after the other, and how great they are.
-use Rattle.std.specs.Prelude.{◌≡◌, ◌≢◌, ℕ, zero, suc, ◌+◌, ◌-◌, ◌*◌, ◌<◌, ◌≤◌, ℤ, pos, ◌-ℤ◌, ◌*ℤ◌, unsigned_abs, Bool, true, false, ◌&&◌, List, [], ◌∷◌, ◌++◌, length, drop}
+use Rattle.std.specs.Prelude.{◌≡◌, ◌≢◌, ℕ, suc, ◌+◌, ◌-◌, ◌*◌, ◌<◌, ◌≤◌, ℤ, pos, ◌-ℤ◌, ◌*ℤ◌, unsigned_abs, true, false, List, [], ◌∷◌, ◌++◌, length, drop}
 use Rattle.std.specs.List.{AllByRecursion}
 use Rattle.std.specs.Ordering.{int_eq}
 use Rattle.std.proofs.Common.{refl, sym, ap, ◌∙◌, arith, get_or, append_assoc, append-nil, add-one}
@@ -22,20 +22,23 @@ less-next n v u k done more whole h l pushed was =
     let front = rw (drop-cons v k (pos 0) h, drop-cons u k (pos 0) l) at was in
     rw (add-one, pushed) (append_assoc done ((get_or u k (pos 0) -ℤ (pos n *ℤ get_or v k (pos 0))) ∷ []) (less n (drop (suc k) v) (drop (suc k) u)) ∙ front)
 
-pub less-end : (n : ℕ) (v u : List ℤ) (k : ℕ) (done whole : List ℤ) → length v ≤ k → done ++ less n (drop k v) (drop k u) ≡ whole → done ≡ whole
+less-none : (n : ℕ) (v : List ℤ) → less n v [] ≡ []
+less-none n [] = refl
+less-none n (x ∷ v) = refl
+
+pub less-end : (n : ℕ) (v u : List ℤ) (k : ℕ) (done whole : List ℤ) → length u ≤ k → done ++ less n (drop k v) (drop k u) ≡ whole → done ≡ whole
 less-end n v u k done whole h was =
-    let none : less n (drop k v) (drop k u) ≡ [] = rw (drop_all k v h) refl in
+    let none : less n (drop k v) (drop k u) ≡ [] = rw (drop_all k u h) (less-none n (drop k v)) in
     sym (append-nil done) ∙ (sym (ap (λ s. done ++ s) none) ∙ was)
 
 -- ---- how many, and how great
 
-length-less : (n : ℕ) (v u : List ℤ) → length v ≡ length u → length (less n v u) ≡ length u
-length-less n [] [] e = refl
+length-less : (n : ℕ) (v u : List ℤ) → length u ≤ length v → length (less n v u) ≡ length u
+length-less n v [] e = ap length (less-none n v)
 length-less n [] (y ∷ u) e = absurd (omega arith)
-length-less n (x ∷ v) [] e = absurd (omega arith)
 length-less n (x ∷ v) (y ∷ u) e = ap suc (length-less n v u (omega arith))
 
-pub length-beside : (n g : ℕ) (v : List ℤ) (l : Left) → length v ≡ length l.class → length (beside n g v l).class ≡ length l.class
+pub length-beside : (n g : ℕ) (v : List ℤ) (l : Left) → length l.class ≤ length v → length (beside n g v l).class ≡ length l.class
 length-beside n g v l e = length-less n v l.class e
 
 one-within : (n p d : ℕ) (x y : ℤ) → n ≤ p → p ≤ d → d ≤ 24 → unsigned_abs x ≤ 100000000000 → IsWithin d y → IsWithin (d - p) (y -ℤ (pos n *ℤ x))
@@ -52,10 +55,10 @@ less-within n p d [] u few fits low entries within = tt
 less-within n p d (x ∷ v) [] few fits low entries within = tt
 less-within n p d (x ∷ v) (y ∷ u) few fits low entries within = (one-within n p d x y few fits low entries.0 within.0, less-within n p d v u few fits low entries.1 within.1)
 
-pub beside-left : (n g : ℕ) (v : List ℤ) (l : Left) → 0 < g → n * g ≤ l.degree → length v ≡ length l.class → IsEntries v → IsLeft l → IsLeft (beside n g v l)
-beside-left n g v l positive fits same entries known = record {
+pub beside-left : (n g : ℕ) (v : List ℤ) (l : Left) → 0 < g → n * g ≤ l.degree → length l.class ≤ length v → IsEntries v → IsLeft l → IsLeft (beside n g v l)
+beside-left n g v l positive fits asked entries known = record {
   low = (let h = known.low in omega arith);
-  few = (let h = known.few in let k = length-less n v l.class same in omega arith);
+  few = (let h = known.few in let k = length-less n v l.class asked in omega arith);
   small = less-within n (n * g) l.degree v l.class (times-more n g positive) fits known.low entries.small known.small;
 }
 

@@ -1,6 +1,5 @@
 -- Each change of the last frame as a move.
-use Rattle.std.specs.Prelude.{◌≡◌, ℕ, zero, suc, ◌+◌, ◌-◌, ◌*◌, ◌<◌, ◌≤◌, Bool, true, false, cond, nat_le, nat_lt, ℤ, List, [], ◌∷◌, ◌++◌, map, filter, length, drop, slice_index_or}
-use Rattle.std.specs.List.{AllByRecursion}
+use Rattle.std.specs.Prelude.{◌≡◌, ℕ, suc, ◌+◌, ◌-◌, ◌<◌, ◌≤◌, Bool, true, false, cond, nat_lt, List, [], ◌∷◌, ◌++◌, map, length, drop, slice_index_or}
 use Rattle.std.proofs.Common.{refl, sym, ap, ◌∙◌, arith, append-nil, append_assoc, length-append, subst}
 use Rattle.std.proofs.Math.Seq.{drop-cons}
 use Rattle.std.proofs.lemmas.List.{drop_all}
@@ -8,15 +7,15 @@ use Rattle.std.proofs.lemmas.Bool.Decides.{nat_tests}
 use Rattle.tv_lemmas.specs.Naturals.{as_natural}
 use Rattle.tv_lemmas.proofs.Members.{all-append, all-front, all-back}
 use Rattle.tv_spec_plane.specs.declared.records.CompactEdge.{CompactEdge}
-use Rattle.tv_spec_plane.specs.Web.{Web, compact, edge_class, edge_degree, degree_of, no_edge}
+use Rattle.tv_spec_plane.specs.Web.{Web, compact, edge_class, edge_degree, no_edge}
 use Rattle.tv_partition.specs.Rows.{diagrams}
-use Rattle.tv_spec_boxes.specs.Assignments.{Assignment, choices, class_on, zeros, same_vector, assignments, assignments_of}
+use Rattle.tv_spec_boxes.specs.Assignments.{Assignment, zeros, same_vector}
 use Rattle.tv_degrees.specs.Edges.{edge_at}
 use Rattle.tv_degrees.proofs.Entries.{length-edge_class}
 use Rattle.tv_class_assignments.specs.Remaining.{Left}
-use Rattle.tv_class_assignments.specs.Walk.{with_left, with_diagrams, beside_on, from, chosen, to_come, IsOpen, IsWalk, IsFurther, IsFound}
+use Rattle.tv_class_assignments.specs.Walk.{with_left, with_diagrams, from, chosen, to_come, IsOpen, IsWalk, IsFurther, IsFound}
 use Rattle.tv_class_assignments.specs.Steps.{steps}
-use Rattle.tv_class_assignments.specs.Moves.{new_frame, larger, later, IsBehind, IsFirstFrame}
+use Rattle.tv_class_assignments.specs.Moves.{new_frame, larger, later, IsBehind}
 use Rattle.tv_class_assignments.specs.declared.frame.Frame.{Frame}
 use Rattle.tv_class_assignments.proofs.Lefts.{with_left-last}
 use Rattle.tv_class_assignments.proofs.Edges.{from-first, from-next, from-larger, from-last}
@@ -83,21 +82,16 @@ all_chosen w count fs front f top was is edges valid = let n = length-append fro
 pub leaf_by : (w : Web) (count : ℕ) (fs front : List Frame) (f : Frame) (b : Bool) → fs ≡ front ++ f ∷ [] → IsWalk w count fs → b ≡ same_vector (zeros (length f.left.class)) f.left.class → with_left w [] f.left ≡ cond b ([] ∷ []) []
 leaf_by w count fs front f b was valid test =
     let known = last_open w count front f (subst (IsWalk w count) was valid) in
-    with_left-last w f.left ∙ ap (λ c. cond c ([] ∷ []) []) (sym (test ∙ ap (λ n. same_vector (zeros n) f.left.class) known.one_each))
+    with_left-last w f.left known.asked ∙ ap (λ c. cond c ([] ∷ []) []) (sym test)
 
 -- ---- at the start
 
-pub new_same : (w : Web) (es : List CompactEdge) (l : Left) → length l.class ≡ length w.points → to_come w es (new_frame l ∷ []) ≡ with_left w es l
-new_same w [] l one = refl
-new_same w (e ∷ es) l one = from-first w e es l one
+pub new_same : (w : Web) (es : List CompactEdge) (l : Left) → length l.class ≤ length w.points → to_come w es (new_frame l ∷ []) ≡ with_left w es l
+new_same w [] l asked = refl
+new_same w (e ∷ es) l asked = from-first w e es l asked
 
-pub first_all : (w : Web) (v : List ℤ) (d : ℕ) (fs : List Frame) → IsFirstFrame d v fs → d ≡ as_natural (degree_of w.heights v) → length v ≡ length w.points → to_come w (compact w) fs ≡ assignments_of w v
-unfolding with_left assignments
-first_all w v d fs first degree one =
-    ap (to_come w (compact w)) first.is
-    ∙ (new_same w (compact w) first.left (ap length first.class ∙ one)
-    ∙ (ap (λ u. filter (λ a. same_vector (class_on w (compact w) a) u) (choices (map (λ e. as_natural (edge_degree w e)) (compact w)) first.left.degree)) first.class
-    ∙ ap (λ n. filter (λ a. same_vector (class_on w (compact w) a) v) (choices (map (λ e. as_natural (edge_degree w e)) (compact w)) n)) (first.degree ∙ degree)))
+pub first_all : (w : Web) (l : Left) (fs : List Frame) → fs ≡ new_frame l ∷ [] → length l.class ≤ length w.points → to_come w (compact w) fs ≡ with_left w (compact w) l
+first_all w l fs is asked = ap (to_come w (compact w)) is ∙ new_same w (compact w) l asked
 
 -- ---- the next size
 
@@ -113,7 +107,7 @@ moved_larger w count e front f is h none more valid =
     record {
       valid = record {
         few = (let n = length-append front (f ∷ []) in let m = length-append front (larger f ∷ []) in let k = valid.few in omega arith);
-        frames = all-append (IsOpen w count) front (larger f ∷ []) (all-front (IsOpen w count) front (f ∷ []) valid.frames) (record { one_each = open_one.one_each; size = omega arith; listed = open_one.listed }, tt);
+        frames = all-append (IsOpen w count) front (larger f ∷ []) (all-front (IsOpen w count) front (f ∷ []) valid.frames) (record { asked = open_one.asked; size = omega arith; listed = open_one.listed }, tt);
       };
       same = on_edge w e front (larger f ∷ []) (f ∷ []) is h (larger_same w (edge_at w e) (drop (suc e) (compact w)) f none more);
       fewer = steps-end count (length (compact w)) (suc r) front (larger f ∷ []) (f ∷ []) (omega arith) (steps-larger count r f (let k = open_one.listed in omega arith));
@@ -136,15 +130,15 @@ later_same w count e f l h new_open behind =
     let es : List CompactEdge = drop (suc e) (compact w) in
     let place : (f.place + 1) - 1 ≡ f.place = omega arith in
     ap (λ k. map (λ a. slice_index_or (diagrams f.size) k [] ∷ a) (to_come w es (new_frame l ∷ [])) ++ from w (edge_at w e) es f.left f.size (f.place + 1)) place
-    ∙ (ap (λ xs. map (λ a. slice_index_or (diagrams f.size) f.place [] ∷ a) xs ++ from w (edge_at w e) es f.left f.size (f.place + 1)) (new_same w es l new_open.one_each ∙ ap (with_left w es) behind.left)
+    ∙ (ap (λ xs. map (λ a. slice_index_or (diagrams f.size) f.place [] ∷ a) xs ++ from w (edge_at w e) es f.left f.size (f.place + 1)) (new_same w es l new_open.asked ∙ ap (with_left w es) behind.left)
     ∙ sym (from-next w (edge_at w e) es f.left f.size f.place behind.fits behind.within))
 
 pub behind_open : (w : Web) (count e : ℕ) (f : Frame) (l : Left) → IsOpen w count f → IsBehind w e f l → IsOpen w count (new_frame l)
 behind_open w count e f l known behind =
-    let entries = length-beside f.size (as_natural (edge_degree w (edge_at w e))) (edge_class w (edge_at w e)) f.left (length-edge_class w (edge_at w e) ∙ sym known.one_each) in
+    let entries = length-beside f.size (as_natural (edge_degree w (edge_at w e))) (edge_class w (edge_at w e)) f.left (let n = length-edge_class w (edge_at w e) in let k = known.asked in omega arith) in
     let degree = ap (λ r. r.degree) behind.left in
     record {
-      one_each = ap (λ r. length r.class) behind.left ∙ (entries ∙ known.one_each);
+      asked = (let n = ap (λ r. length r.class) behind.left in let k = known.asked in omega arith);
       size = omega arith;
       listed = (let h = known.listed in omega arith);
     }
@@ -158,7 +152,7 @@ entered w count e fs gs front f l was is top h new_open behind valid =
     rw (was, is, append_assoc front (later f ∷ []) (new_frame l ∷ [])) (record {
       valid = record {
         few = (let k = length-append front (later f ∷ new_frame l ∷ []) in omega arith);
-        frames = all-append (IsOpen w count) front (later f ∷ new_frame l ∷ []) (all-front (IsOpen w count) front (f ∷ []) known.frames) (record { one_each = open_one.one_each; size = open_one.size; listed = open_one.listed }, (new_open, tt));
+        frames = all-append (IsOpen w count) front (later f ∷ new_frame l ∷ []) (all-front (IsOpen w count) front (f ∷ []) known.frames) (record { asked = open_one.asked; size = open_one.size; listed = open_one.listed }, (new_open, tt));
       };
       same = on_edge w e front (later f ∷ new_frame l ∷ []) (f ∷ []) (omega arith) h (later_same w count e f l h new_open behind);
       fewer = steps-end count (length (compact w)) (suc r) front (later f ∷ new_frame l ∷ []) (f ∷ []) (omega arith) (steps-later count r f l behind.within);

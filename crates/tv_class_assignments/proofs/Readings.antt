@@ -1,7 +1,7 @@
 -- What is read of tables and results.
 use Rattle.std.specs.Prelude.{◌≡◌, ℕ, ◌<◌, List, [], Result, Ok, Err, Option, MatchResult, IfOk, unwrap_or, slice_get}
 use Rattle.std.specs.List.{AllByRecursion}
-use Rattle.std.proofs.Common.{sym, ap, ◌∙◌, arith, get_or, take, drop, subst, length}
+use Rattle.std.proofs.Common.{sym, ap, ◌∙◌, arith, get_or, take, drop, subst}
 use Rattle.std.proofs.lemmas.List.{take-append-drop}
 use Rattle.std.proofs.lemmas.Option.{unwrap_or-slice_get}
 use Rattle.tv_lemmas.proofs.Members.{all-front, all-onto}

@@ -1,18 +1,15 @@
 -- The last edges, point by point and edge by edge, and what is stuck behind them.
-use Rattle.std.specs.Prelude.{◌≡◌, ℕ, zero, suc, ◌+◌, ◌<◌, ◌≤◌, ℤ, pos, List, [], ◌∷◌, ◌++◌, length, drop, slice_index_or}
+use Rattle.std.specs.Prelude.{◌≡◌, ℕ, zero, suc, ◌+◌, ◌<◌, ◌≤◌, List, [], ◌∷◌, ◌++◌, length, drop, slice_index_or}
 use Rattle.std.specs.List.{AllByRecursion}
-use Rattle.std.proofs.Common.{sym, ◌∙◌, arith, get_or, subst, below_more, length-append}
+use Rattle.std.proofs.Common.{sym, arith, get_or, subst, below_more, length-append}
 use Rattle.std.proofs.Math.ListN.{get_or-append}
 use Rattle.std.proofs.Math.Seq.{get_or-append_seam}
-use Rattle.std.proofs.lemmas.List.{get_or_read}
 use Rattle.tv_spec_plane.specs.declared.records.CompactEdge.{CompactEdge}
-use Rattle.tv_spec_plane.specs.Web.{Web, compact, edge_class, no_edge}
-use Rattle.tv_degrees.specs.Edges.{edge_at}
+use Rattle.tv_spec_plane.specs.Web.{Web, compact, no_edge}
 use Rattle.tv_class_assignments.specs.Remaining.{Left}
-use Rattle.tv_class_assignments.specs.Tables.{AreSizes, IsPast, AreLast, AreTables, IsStuck}
+use Rattle.tv_class_assignments.specs.Tables.{IsPast, AreLast, AreTables, IsStuck}
 use Rattle.tv_class_assignments.specs.Walk.{with_left}
 use Rattle.tv_class_assignments.proofs.Lefts.{IsUntouched, with_left-stuck}
-use Rattle.tv_assignment.proofs.Written.{size_read}
 
 untouched_from : (w : Web) (p : ℕ) (es : List CompactEdge) (k : ℕ) → ((i : ℕ) → k ≤ i → i < length es → IsUntouched w p (get_or es i no_edge)) → AllByRecursion (IsUntouched w p) (drop k es)
 untouched_from w p [] zero none = tt

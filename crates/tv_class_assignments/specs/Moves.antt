@@ -7,9 +7,8 @@
 -- larger f, later f  == the frame goes on to the next size, to the next diagram
 -- IsEnlarged fs gs   == the last of the frames goes on to the next size, or is left after the largest
 -- IsEntered fs l gs  == the last of the frames goes on to the next diagram, and l is left behind the one before it
--- IsFirstFrame d v fs == the one frame of the whole degree and class
 -- IsNext now found then == found is the head of the list now, with the rest then, or none where both are empty
-use Rattle.std.specs.Prelude.{◌≡◌, ℕ, suc, ◌+◌, ◌*◌, ◌^◌, ◌<◌, ℤ, true, cond, List, [], ◌∷◌, ◌++◌, length, drop, nat_le, nat_lt, Option, Some, None}
+use Rattle.std.specs.Prelude.{◌≡◌, ℕ, suc, ◌+◌, ◌*◌, ◌^◌, ◌<◌, true, cond, List, [], ◌∷◌, ◌++◌, length, drop, nat_le, nat_lt, Option, Some, None}
 use Rattle.tv_lemmas.specs.Naturals.{as_natural}
 use Rattle.tv_spec_plane.specs.Web.{Web, compact, edge_degree}
 use Rattle.tv_degrees.specs.Edges.{edge_at}
@@ -65,9 +64,3 @@ pub record IsEntered (fs : List Frame) (l : Left) (gs : List Frame) : Type 0 whe
   pub last : Frame
   pub was : fs ≡ front ++ last ∷ []
   pub is : gs ≡ (front ++ later last ∷ []) ++ new_frame l ∷ []
-
-pub record IsFirstFrame (d : ℕ) (v : List ℤ) (fs : List Frame) : Type 0 where
-  pub left : Left
-  pub degree : left.degree ≡ d
-  pub class : left.class ≡ v
-  pub is : fs ≡ new_frame left ∷ []

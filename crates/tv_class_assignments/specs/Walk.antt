@@ -2,8 +2,8 @@
 --
 -- Frame                  == an edge with what is left there: of that size the diagrams from that place on are to come, and all
 --                           larger ones
--- with_left w es l       == the assignments of the edges es that spend what is left of the class, and at most what is left
---                           of the degree
+-- with_left w es l       == the assignments of the edges es that spend what is left of the class, where one is asked for, and at
+--                           most what is left of the degree
 -- beside_on w e n l      == what is left beside n cells on the edge
 -- with_diagrams w e es l n ds == those with one of the diagrams ds of n cells on e
 -- from w e es l n k      == those with diagram number k of n cells on e, or with a later one
@@ -20,14 +20,14 @@ use Rattle.tv_lemmas.specs.Naturals.{as_natural}
 use Rattle.tv_spec_plane.specs.declared.records.CompactEdge.{CompactEdge}
 use Rattle.tv_spec_plane.specs.Web.{Web, compact, edge_class, edge_degree}
 use Rattle.tv_partition.specs.Rows.{diagrams}
-use Rattle.tv_spec_boxes.specs.Assignments.{Rows, Assignment, choices, class_on, same_vector}
-use Rattle.tv_class_assignments.specs.Remaining.{Left, beside}
+use Rattle.tv_spec_boxes.specs.Assignments.{Rows, Assignment, choices, class_on}
+use Rattle.tv_class_assignments.specs.Remaining.{Left, spends, beside}
 use Rattle.tv_class_assignments.specs.Steps.{steps}
 use Rattle.tv_class_assignments.specs.declared.frame.Frame.{Frame}
 
 unfoldable pub with_left : Web → List CompactEdge → Left → List Assignment
 with_left w es l =
-    filter (λ a. same_vector (class_on w es a) l.class) (choices (map (λ e. as_natural (edge_degree w e)) es) l.degree)
+    filter (λ a. spends l (class_on w es a)) (choices (map (λ e. as_natural (edge_degree w e)) es) l.degree)
 
 abbrev pub beside_on : Web → CompactEdge → ℕ → Left → Left
 beside_on w e n l = beside n (as_natural (edge_degree w e)) (edge_class w e) l
@@ -55,7 +55,7 @@ abbrev pub coming : Web → List Frame → List Assignment
 coming w fs = to_come w (compact w) fs
 
 pub record IsOpen (w : Web) (count : ℕ) (f : Frame) : Type 0 where
-  pub one_each : length f.left.class ≡ length w.points
+  pub asked : length f.left.class ≤ length w.points
   pub size : f.size ≤ f.left.degree
   pub listed : f.left.degree < count
 

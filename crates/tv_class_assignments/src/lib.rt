@@ -1,5 +1,5 @@
-//! The assignments of one class, one at a time, in the order of the definition and each once. It knows no extras and no
-//! series.
+//! The assignments of one class, or all to a degree, one at a time, in the order of the definition and each once. It knows
+//! no extras and no series.
 #![tactic(auto)]
 
 mod frame;

@@ -1,12 +1,13 @@
-//! The lister of the assignments of a class. It holds one choice for each edge and no list of what is to come.
+//! The lister of the assignments of a class, or of all to a degree. It holds one choice for each edge and no list of what is
+//! to come.
 
 ghost use Rattle.std.specs.Prelude.{◌≡◌, ◌+◌, ◌≤◌, ◌≤ℤ◌, ◌∷◌, [], pos, length, IfOk, OnErr};
-ghost use Rattle.tv_spec_plane.specs.Web.{degree_of};
-ghost use Rattle.tv_spec_boxes.specs.Assignments.{assignments_of};
+ghost use Rattle.tv_spec_plane.specs.Web.{compact, degree_of};
+ghost use Rattle.tv_spec_boxes.specs.Assignments.{assignments, assignments_of};
 ghost use Rattle.tv_lemmas.specs.Naturals.{as_natural};
 ghost use Rattle.tv_class_assignments.specs.Tables.{AreTables};
-ghost use Rattle.tv_class_assignments.specs.Walk.{coming, IsWalk};
-ghost use Rattle.tv_class_assignments.specs.Moves.{IsNext, IsFirstFrame};
+ghost use Rattle.tv_class_assignments.specs.Walk.{coming, with_left, IsWalk};
+ghost use Rattle.tv_class_assignments.specs.Moves.{new_frame, IsNext};
 
 use crate::frame::Frame;
 use crate::moves::{Move, step};
@@ -20,7 +21,7 @@ use tv_lattice::class::Class;
 use tv_partition::all::Diagrams;
 use tv_spec_plane::limits::GREATEST_DEGREE;
 
-/// The assignments of a class that are still to come, in the order of `assignments_of`.
+/// The assignments that are still to come, in the order of `assignments`.
 #[derive(Drop)]
 pub struct Assignments<'a> {
     web: &'a GradedWeb,
@@ -53,15 +54,21 @@ impl<'a> Assignments<'a> {
         ensures { IfOk result (λ all. all ≡ assignments_of web.now class) }
     {
         let degree = natural(class.degree(web.heights()));
-        let sizes = tables::sizes_to(alloc, degree)?;
-        let last = tables::last_edges(alloc, web)?;
-        let frames = first_frame(alloc, degree, &class)?;
-        Ok(Assignments {
-            web,
-            sizes,
-            last,
-            frames,
-        })
+        let left = Remaining::whole(alloc, degree, &class)?;
+        all_with(alloc, web, left)
+    }
+
+    /// All assignments of degree at most `d`. It errs only for want of memory.
+    pub fn of_degree(
+        alloc: Global,
+        web: &'a GradedWeb,
+        d: u32,
+    ) -> Result<Assignments<'a>, AllocError>
+        requires { d ≤ GREATEST_DEGREE }
+        ensures { IfOk result (λ all. all ≡ assignments web.now d) }
+    {
+        let left = Remaining::of_degree(alloc, d);
+        all_with(alloc, web, left)
     }
 
     /// The next one; None after the last, and ever after. After an error the next call gives what this one would have given.
@@ -88,12 +95,30 @@ fn natural(degree: i64) -> u32
     if degree < 0 { 0 } else { degree as u32 }
 }
 
-// Nothing is chosen, and all is left.
-fn first_frame(alloc: Global, degree: u32, class: &Class) -> Result<Vec<Frame>, AllocError>
-    requires { degree ≤ GREATEST_DEGREE }
-    ensures { IfOk result (λ frames. IsFirstFrame degree class.now frames.items) }
+// All assignments that spend what is left.
+fn all_with<'a>(
+    alloc: Global,
+    web: &'a GradedWeb,
+    left: Remaining,
+) -> Result<Assignments<'a>, AllocError>
+    requires { length left.class ≤ length web.now.points }
+    ensures { IfOk result (λ all. all ≡ with_left web.now (compact web.now) left) }
 {
-    let left = Remaining::whole(alloc, degree, class)?;
+    let sizes = tables::sizes_to(alloc, left.degree())?;
+    let last = tables::last_edges(alloc, web)?;
+    let frames = first_frame(alloc, left)?;
+    Ok(Assignments {
+        web,
+        sizes,
+        last,
+        frames,
+    })
+}
+
+// Nothing is chosen, and all is left.
+fn first_frame(alloc: Global, left: Remaining) -> Result<Vec<Frame>, AllocError>
+    ensures { IfOk result (λ frames. frames.items ≡ new_frame left ∷ []) }
+{
     let mut frames = Vec::new(alloc);
     frames.push(Frame {
         left,

@@ -160,7 +160,7 @@ fn enter(frames: &mut Vec<Frame>, top: usize, left: Remaining) -> Result<(), All
     Ok(())
 }
 
-// The assignment of all edges, if it spends what is left of the class.
+// The assignment of all edges, if nothing is left of the class.
 fn leave(
     web: &GradedWeb,
     sizes: &[Diagrams],

@@ -1,6 +1,6 @@
-//! What is left of a degree and of a class beside the diagrams that are chosen. It knows no edge.
+//! What is left of a degree, and of a class where one is asked for, beside the diagrams that are chosen. It knows no edge.
 
-ghost use Rattle.std.specs.Prelude.{◌≡◌, ◌+◌, ◌<◌, ◌≤◌, ◌*◌, ◌-ℤ◌, ◌*ℤ◌, pos, length, nat_le, unsigned_abs, slice_index_or, IfOk};
+ghost use Rattle.std.specs.Prelude.{◌≡◌, ◌+◌, ◌<◌, ◌≤◌, ◌*◌, ◌-ℤ◌, ◌*ℤ◌, [], pos, length, nat_le, unsigned_abs, slice_index_or, IfOk};
 ghost use Rattle.std.specs.List.{AllByRecursion};
 ghost use Rattle.tv_spec_boxes.specs.Assignments.{same_vector, zeros};
 ghost use Rattle.tv_lattice.specs.Classes.{IsEntry, IsEntries};
@@ -11,7 +11,8 @@ use std::marker::Model;
 use tv_lattice::class::{Class, entry_at};
 use tv_spec_plane::limits::{GREATEST_DEGREE, GREATEST_ENTRY};
 
-/// A degree of at most `GREATEST_DEGREE`, and one number for each point in the order of the points.
+/// A degree of at most `GREATEST_DEGREE`, and a number for each point at which the class is asked for, in the order of the
+/// points: for all points where a class is asked for, for none where none is.
 #[derive(Drop)]
 pub(crate) struct Remaining {
     degree: u32,
@@ -37,6 +38,18 @@ impl Remaining {
     {
         let class = class.entries().to_vec(alloc)?;
         Ok(Remaining { degree, class })
+    }
+
+    /// The whole degree, and no class: none is asked for.
+    pub(crate) fn of_degree(alloc: Global, degree: u32) -> Remaining
+        requires { degree ≤ GREATEST_DEGREE }
+        ensures degree { result.degree ≡ degree }
+        ensures class { result.class ≡ [] }
+    {
+        Remaining {
+            degree,
+            class: Vec::new(alloc),
+        }
     }
 
     /// The degree that is left.
@@ -73,7 +86,7 @@ impl Remaining {
     ) -> Result<Remaining, AllocError>
         requires positive { 0 < degree }
         requires fits { size * degree ≤ self.now.degree }
-        requires same_length { length class.now ≡ length self.now.class }
+        requires asked { length self.now.class ≤ length class.now }
         ensures { IfOk result (λ left. left ≡ beside size degree class.now self.now) }
     {
         let left = u64::from(self.degree) - u64::from(size) * degree;
@@ -89,7 +102,7 @@ impl Remaining {
         })
     }
 
-    /// Whether nothing is left of the class.
+    /// Whether nothing is left of the class: so it is where none is asked for.
     pub(crate) fn is_spent(&self) -> bool
         ensures { result ≡ same_vector (zeros (length self.now.class)) self.now.class }
     {
@@ -111,7 +124,7 @@ fn is_zero(entries: &[i64]) -> bool
 // The entries less size times those of the class.
 fn less(alloc: Global, entries: &[i64], class: &[i64], size: u32) -> Result<Vec<i64>, AllocError>
     requires few { size ≤ GREATEST_DEGREE }
-    requires same_length { length class.now ≡ length entries.now }
+    requires asked { length entries.now ≤ length class.now }
     requires small { AllByRecursion (IsWithin 0) entries.now }
     requires class { IsEntries class.now }
     ensures { IfOk result (λ rest. rest.items ≡ less size class.now entries.now) }

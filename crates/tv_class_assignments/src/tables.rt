@@ -61,10 +61,10 @@ fn touches(web: &GradedWeb, e: u32, p: usize) -> bool
 
 /// Whether a point that no edge from that number on touches has an entry left.
 pub(crate) fn is_stuck(last: &[usize], class: &[i64], edge: usize) -> bool
-    requires { length class.now ≡ length last.now }
+    requires { length class.now ≤ length last.now }
     ensures { OnTrue result (IsStuck last.now class.now edge) }
 {
-    for p in 0..last.len() {
+    for p in 0..class.len() {
         if last[p] <= edge && class[p] != 0 {
             return true;
         }

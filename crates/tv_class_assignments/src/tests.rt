@@ -1,4 +1,4 @@
-//! The conifold: the assignments of one class, as they are known from outside.
+//! The conifold: the assignments of one class, and all to a degree, as they are known from outside.
 
 ghost use Rattle.std.specs.Prelude.{◌≡◌, ◌≤ℤ◌, pos, length, IfOk};
 ghost use Rattle.tv_spec_plane.specs.Web.{degree_of};
@@ -91,5 +91,15 @@ fn lists_a_class(rt: HostRuntime) -> Result<(), Fail> {
     let web = conifold(rt.alloc())?;
     let mut all = twice(rt.alloc(), &web)?;
     assert!(rt; gives(&mut all, &[2]) && gives(&mut all, &[1, 1]) && ends(&mut all));
+    Ok(())
+}
+
+// One of no cells, one of one, and two of two.
+#[test]
+fn lists_a_degree(rt: HostRuntime) -> Result<(), Fail> {
+    let web = conifold(rt.alloc())?;
+    let mut all = Assignments::of_degree(rt.alloc(), &web, 2)?;
+    assert!(rt; gives(&mut all, &[]) && gives(&mut all, &[1]) && gives(&mut all, &[2]));
+    assert!(rt; gives(&mut all, &[1, 1]) && ends(&mut all));
     Ok(())
 }

@@ -1,6 +1,5 @@
-use Rattle.std.proofs.Common.{◌≡◌, ◌-◌, sym, ◌∙◌, ap, subst, get_or}
-use Rattle.std.specs.Prelude.{IfOk, slice_get, []}
-use Rattle.std.specs.Option.{option_copied}
+use Rattle.std.proofs.Common.{◌≡◌, ◌-◌, ◌∙◌, ap, subst, get_or}
+use Rattle.std.specs.Prelude.{IfOk, []}
 use Rattle.tv_partition.specs.Rows.{diagrams}
 use Rattle.tv_spec_boxes.specs.Assignments.{Rows}
 use Rattle.tv_class_assignments.proofs.Readings.{ok_part, read_rows}

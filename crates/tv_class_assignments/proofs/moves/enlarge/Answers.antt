@@ -1,4 +1,4 @@
-use Rattle.std.proofs.Common.{refl, arith}
+use Rattle.std.proofs.Common.{refl}
 use Rattle.tv_class_assignments.proofs.Ends.{enlarged_then, enlarged_else}
 use Rattle.tv_class_assignments.proofs.moves.enlarge.Goals as goal
 

@@ -1,6 +1,4 @@
-use Rattle.std.proofs.Common.{◌≡◌, ◌∙◌, refl, ap, cond, map, length, [], ◌∷◌}
-use Rattle.tv_spec_plane.specs.Web.{compact}
-use Rattle.tv_spec_boxes.specs.Assignments.{zeros, same_vector}
+use Rattle.std.proofs.Common.{◌∙◌, refl, ap, cond, map, length, [], ◌∷◌}
 use Rattle.tv_class_assignments.specs.Walk.{chosen}
 use Rattle.tv_class_assignments.proofs.Ends.{last_split, same_front}
 use Rattle.tv_class_assignments.proofs.Moved.{left_unspent, left_found, leaf_by, all_chosen}

@@ -1,16 +1,16 @@
-use Rattle.std.proofs.Common.{◌≡◌, ◌+◌, ◌*◌, ◌≤◌, sym, ◌∙◌, ap, arith, drop, false, length, suc, subst}
+use Rattle.std.proofs.Common.{◌≡◌, ◌+◌, ◌*◌, sym, ◌∙◌, ap, arith, drop, length, suc, subst}
 use Rattle.std.specs.Prelude.{nat_le}
 use Rattle.std.proofs.lemmas.List.{drop_all}
 use Rattle.tv_lemmas.specs.Naturals.{as_natural}
-use Rattle.tv_spec_plane.specs.Web.{compact, edge_class, edge_degree}
+use Rattle.tv_spec_plane.specs.Web.{compact, edge_degree}
 use Rattle.tv_partition.specs.Rows.{diagrams}
 use Rattle.tv_degrees.specs.Edges.{edge_at}
-use Rattle.tv_degrees.proofs.Entries.{length-edge_class}
 use Rattle.tv_class_assignments.specs.Remaining.{beside}
 use Rattle.tv_class_assignments.specs.Tables.{IsStuck}
 use Rattle.tv_class_assignments.specs.Walk.{with_left, with_diagrams, beside_on}
 use Rattle.tv_class_assignments.proofs.Edges.{from-many, with_diagrams-past, with_diagrams-none}
 use Rattle.tv_class_assignments.proofs.Less.{length-beside}
+use Rattle.tv_class_assignments.proofs.Lefts.{class_length}
 use Rattle.tv_class_assignments.proofs.Tabled.{stuck-none}
 use Rattle.tv_class_assignments.proofs.moves.next_choice.Goals as goal
 use Rattle.tv_assignment.proofs.Written.{size_read}
@@ -29,16 +29,21 @@ returns-then-frame-len c =
     ap (with_diagrams w (edge_at w c.args.e) (drop (suc c.args.e) (compact w)) f.left f.size) (drop_all f.place (diagrams f.size) (omega arith))
     ∙ with_diagrams-past w (edge_at w c.args.e) (drop (suc c.args.e) (compact w)) f.left f.size
 
-pub beside-requires-clause-same_length : goal.beside-requires-clause-same_length
-beside-requires-clause-same_length c = ap length c.class_of.ensures ∙ (length-edge_class c.args.web.now (edge_at c.args.web.now c.args.e) ∙ sym c.requires.open.one_each)
+pub beside-requires-clause-asked : goal.beside-requires-clause-asked
+beside-requires-clause-asked c =
+    let one_each = class_length c.args.web.now (edge_at c.args.web.now c.args.e) c.class_of.result.now c.class_of.ensures in
+    let few = c.requires.open.asked in
+    omega arith
 
 pub is_stuck-requires : goal.is_stuck-requires
 is_stuck-requires c =
-    let same = ap length c.class_of.ensures ∙ (length-edge_class c.args.web.now (edge_at c.args.web.now c.args.e) ∙ sym c.requires.open.one_each) in
-    ap length c.class.ensures
-    ∙ (ap (λ l. length l.class) c.in_ok-left.ensures
-    ∙ (length-beside c.args.frame.now.size c.degree_at-degree.result c.class_of.result.now c.args.frame.now.left same
-    ∙ (c.requires.open.one_each ∙ sym c.requires.tables.one_each)))
+    let one_each = class_length c.args.web.now (edge_at c.args.web.now c.args.e) c.class_of.result.now c.class_of.ensures in
+    let few = c.requires.open.asked in
+    let read = ap length c.class.ensures in
+    let left = ap (λ l. length l.class) c.in_ok-left.ensures in
+    let as_many = length-beside c.args.frame.now.size c.degree_at-degree.result c.class_of.result.now c.args.frame.now.left (omega arith) in
+    let tabled = c.requires.tables.one_each in
+    omega arith
 
 pub returns-then-is_stuck : goal.returns-then-is_stuck
 returns-then-is_stuck c =

@@ -1,4 +1,4 @@
-use Rattle.std.proofs.Common.{◌≡◌, arith, w64, pos, ◌-ℤ◌, ◌*ℤ◌, get_or}
+use Rattle.std.proofs.Common.{arith, pos, get_or}
 use Rattle.std.proofs.lemmas.Int.{ints}
 use Rattle.tv_lemmas.proofs.Members.{all-at}
 use Rattle.tv_class_assignments.specs.Remaining.{IsWithin}
