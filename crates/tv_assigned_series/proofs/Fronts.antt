@@ -49,7 +49,7 @@ next-ways : (front : List Legs) (corner : Legs) (i : ℕ) → corner_ways (front
 next-ways front corner i = ap (λ cs. ways cs i) (map-append count front (corner ∷ [])) ∙ ways_last (map count front) (count corner) i
 
 -- too many over all of some corners
-pub all-beyond : {A : Type 0} (r : Operations A) (legs : List Legs) (k boxes : ℕ) → boxes ≤ k → limit < corner_ways legs boxes * r.size r.unit → IsBeyond r legs k
+all-beyond : {A : Type 0} (r : Operations A) (legs : List Legs) (k boxes : ℕ) → boxes ≤ k → limit < corner_ways legs boxes * r.size r.unit → IsBeyond r legs k
 all-beyond r legs k boxes within beyond =
     inl (record { corners = length legs; boxes = boxes; within = within; beyond = rw (front-all legs (length legs) boxes (omega arith)) beyond })
 
@@ -95,9 +95,6 @@ module _ {A : Type 0} {IsValue : A → Type 0} {r : Operations A} (laws : RingLa
 
     corner-at : (i : ℕ) → i ≤ j → at r b.coefficients i ≡ times r (count corner i)
     corner-at i h = ap (λ (s : Terms A). at r s.coefficients i) eb ∙ (at-listed r (extras_times r corner) (suc j) i (omega arith) ∙ extras_times-is r corner i)
-
-    pub product-low : IsWithin (a.low +ℤ b.low)
-    product-low = rw (ap (λ (s : Terms A). s.low) ea, ap (λ (s : Terms A). s.low) eb) (omega (arith, ints))
 
     pub product-within : k < 2 ^ 29 → IsWithin (product_upto a b)
     product-within h = rw (front-length, corner-length, ap (λ (s : Terms A). s.low) ea, ap (λ (s : Terms A). s.low) eb) (near k j h within)

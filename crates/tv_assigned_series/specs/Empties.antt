@@ -1,22 +1,20 @@
 -- Corners without legs, the products over some of them, and the product over one corner more.
 --
--- is_bare legs         == no leg has a cell
 -- empties m            == m corners without legs
 -- IsPower r m s        == s is the product over m corners without legs, known through some number of boxes
 -- ArePowers r ss       == the first is so of one such corner, the next of two, and so on
 -- IsStep r a b         == a is the product over some corners, known through fewer than 2^29 boxes, and b the series of a corner,
 --                         known as far at least
--- IsNext r a b s       == s is then the product over these corners and that one, known as far as a is
--- IsNextBeyond r a b   == those corners and that one have too many (IsBeyond)
-use Rattle.std.specs.Prelude.{◌≡◌, ℕ, suc, ◌^◌, ◌<◌, Bool, ◌&&◌, ◌==◌, List, [], ◌∷◌, ◌++◌, length, replicate, slice_index_or}
+-- IsNext r a b s       == over whatever corners a is the product, and of whatever corner b is the series, s is the product over
+--                         these corners and that one, known as far as a is
+-- IsNextBeyond r a b   == over whatever corners a is the product, and of whatever corner b is the series, these corners and that
+--                         one have too many through as many boxes as a is known (IsBeyond)
+use Rattle.std.specs.Prelude.{◌≡◌, ℕ, suc, ◌^◌, ◌<◌, List, [], ◌∷◌, ◌++◌, length, replicate, slice_index_or}
 use Rattle.tv_ring.specs.Operations.{Operations}
 use Rattle.tv_laws_series.specs.Terms.{Terms}
 use Rattle.tv_cells.specs.declared.legs.Legs.{Legs}
 use Rattle.tv_cells.specs.Extras.{empty_legs}
 use Rattle.tv_assigned_series.specs.Terms.{front_terms, IsCornerFrom, IsBeyond}
-
-abbrev pub is_bare : Legs → Bool
-is_bare legs = ((length legs.along_x == 0) && (length legs.along_y == 0)) && (length legs.along_z == 0)
 
 abbrev pub empties : ℕ → List Legs
 empties m = replicate m empty_legs

@@ -71,12 +71,7 @@ impl<C: Ring> Corners<C> {
     }
 
     /// The same of the series that is kept under the legs themselves.
-    pub(crate) fn place_under(
-        &mut self,
-        alloc: Global,
-        legs: &Legs,
-        k: u32,
-    ) -> Result<usize, RingFault>
+    pub fn place_under(&mut self, alloc: Global, legs: &Legs, k: u32) -> Result<usize, RingFault>
         requires { k < 2 ^ 29 }
         ensures value { IfOk result (λ i. IsPlaceOf C.ring legs.now k self.new i) }
         ensures kept { OnOk result (Keeps C.ring legs.now k self.new) }
@@ -105,7 +100,7 @@ impl<C: Ring> Corners<C> {
     }
 
     /// The product over `count` corners without legs, known through `k`.
-    pub(crate) fn empties(
+    pub(crate) fn empties_product(
         &mut self,
         alloc: Global,
         count: usize,
@@ -114,7 +109,8 @@ impl<C: Ring> Corners<C> {
         requires { k < 2 ^ 29 }
         ensures value { IfOk result (λ s. s ≡ front_terms C.ring (empties count) k) }
 
-        // Wide only where the ways to split at most k boxes over some of them, or the count at one, exceed the limit.
+        // Wide only where the ways to split at most k boxes over some of them, or the count at one, times the size of one,
+        // exceed the limit.
         ensures wide { IsErrOf result RingFault.Wide → IsBeyond C.ring (empties count) k }
     {
         if count == 0 {

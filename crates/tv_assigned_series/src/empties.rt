@@ -52,6 +52,8 @@ impl<C: Ring> Powers<C> {
         requires known { k < 2 ^ 29 }
         requires corner { IsCornerFrom C.ring empty_legs k corner.now }
         ensures value { IfOk result (λ s. s ≡ front_terms C.ring (empties count) k) }
+        // Wide only where the ways to split at most k boxes over some of them, or the count at one, times the size of one,
+        // exceed the limit.
         ensures wide { IsErrOf result RingFault.Wide → IsBeyond C.ring (empties count) k }
     {
         let (begun, first) = self.begun(alloc, count, k)?;
@@ -93,7 +95,7 @@ impl<C: Ring> Powers<C> {
         Ok(None)
     }
 
-    // Puts the product at that place, the next one after those that are kept or one of them.
+    // Puts the product at that place, the next one after those that are kept or one of them; beyond them it keeps nothing.
     fn keep(&mut self, place: usize, product: Series<C>) -> Result<(), RingFault>
         requires { IsPower C.ring (place + 1) product }
         ensures never_wide { IsOkUnless result RingFault.Memory }

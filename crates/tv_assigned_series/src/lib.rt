@@ -2,13 +2,11 @@
 //! are not added up here, and no assignment is listed.
 #![tactic(auto)]
 
-mod asked;
 mod class;
 mod corners;
 mod empties;
 mod family_fault;
 mod fault;
-mod prepare;
 mod product;
 mod series;
 mod signs;
@@ -19,5 +17,4 @@ mod tests;
 pub use class::class_of;
 pub use corners::Corners;
 pub use family_fault::{GlueFault, of_ring, of_series};
-pub use fault::PrepareFault;
-pub use series::assignment_series;
+pub use series::{assignment_series, boxes_left};

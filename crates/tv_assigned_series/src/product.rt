@@ -3,13 +3,14 @@
 
 ghost use Rattle.std.specs.Prelude.{◌≡◌, ◌<◌, ◌≤◌, ◌^◌, IfOk, IsErrOf};
 ghost use Rattle.std.specs.List.{count_by};
+ghost use Rattle.tv_images.specs.Least.{is_empty};
 ghost use Rattle.tv_assigned_series.specs.Terms.{front_terms, IsBeyond};
-ghost use Rattle.tv_assigned_series.specs.Empties.{is_bare};
 
 use crate::corners::Corners;
 use crate::steps::with_corner;
 use std::alloc::Global;
 use tv_cells::legs::Legs;
+use tv_images::is_empty;
 use tv_laurent::Series;
 use tv_ring::{Ring, RingFault};
 
@@ -23,12 +24,13 @@ pub fn product<C: Ring>(
     requires { k < 2 ^ 29 }
     ensures value { IfOk result (λ s. s ≡ front_terms C.ring legs.now k) }
 
-    // Wide only where the ways to split at most k boxes over the first corners, or the count at one, exceed the limit.
+    // Wide only where the ways to split at most k boxes over the first corners, or the count at one, times the size of one,
+    // exceed the limit.
     ensures wide { IsErrOf result RingFault.Wide → IsBeyond C.ring legs.now k }
 {
-    let mut product = corners.empties(alloc, bare_count(legs), k)?;
+    let mut product = corners.empties_product(alloc, empty_count(legs), k)?;
     for corner in legs {
-        if is_bare(corner) {
+        if is_empty(corner) {
             continue;
         }
         let place = corners.place_of(alloc, corner, k)?;
@@ -38,17 +40,8 @@ pub fn product<C: Ring>(
 }
 
 // How many corners have no leg.
-fn bare_count(legs: &[Legs]) -> usize
-    ensures { result ≡ count_by is_bare legs.now }
+fn empty_count(legs: &[Legs]) -> usize
+    ensures { result ≡ count_by is_empty legs.now }
 {
-    legs.iter().filter(|corner| is_bare(corner)).count()
-}
-
-// Whether no leg of the corner has a cell.
-fn is_bare(corner: &Legs) -> bool
-    ensures { result ≡ is_bare corner.now }
-{
-    corner.along_x.rows().is_empty()
-        && corner.along_y.rows().is_empty()
-        && corner.along_z.rows().is_empty()
+    legs.iter().filter(|corner| is_empty(corner)).count()
 }

@@ -33,7 +33,8 @@ pub fn assignment_series<C: Ring>(
     requires exponent { unsigned_abs n ≤ 100000000 }
     ensures value { IfOk result (λ s. s ≡ assignment_terms C.ring web.now (no_legs web.now) n assignment.now) }
 
-    // Wide only where the ways to split the boxes left over the first corners, or the count of one, are too many.
+    // Wide only where the ways to split the boxes left over the first corners, or the count at one, times the size of one,
+    // exceed the limit.
     ensures wide { IsErrOf result RingFault.Wide → IsTooMany C.ring web.now (no_legs web.now) n assignment.now }
 {
     let legs = all_legs(alloc, web, assignment)?;
@@ -49,7 +50,7 @@ pub fn assignment_series<C: Ring>(
 }
 
 /// How many boxes bring the start to `n`.
-pub(crate) fn boxes_left(start: i64, n: i64) -> u32
+pub fn boxes_left(start: i64, n: i64) -> u32
     requires start { unsigned_abs start ≤ 10000000 }
     requires exponent { unsigned_abs n ≤ 100000000 }
     requires within { start ≤ℤ n }

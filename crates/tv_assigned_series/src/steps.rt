@@ -30,6 +30,8 @@ pub(crate) fn with_corner<C: Ring>(
 ) -> Result<Series<C>, RingFault>
     requires { IsStep C.ring product.now corner.now }
     ensures value { IfOk result (IsNext C.ring product.now corner.now) }
+
+    // Wide only where these corners have too many.
     ensures wide { IsErrOf result RingFault.Wide → IsNextBeyond C.ring product.now corner.now }
 {
     match product.mul(corner) {

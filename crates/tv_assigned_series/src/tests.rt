@@ -7,7 +7,7 @@ ghost use Rattle.tv_assignment.specs.Size.{cells_of};
 use crate::{Corners, assignment_series};
 use std::alloc::Global;
 use std::test::Fail;
-use tv_assignment::{Assignment, all_legs};
+use tv_assignment::Assignment;
 use tv_cells::legs::Legs;
 use tv_degrees::grade::{GradedWeb, grade};
 use tv_lattice::point::Point;
@@ -132,29 +132,6 @@ fn keeps_one_series_for_images(rt: HostRuntime) -> Result<(), Fail> {
     assert!(rt;
         is_kept(&mut corners, rt.alloc(), &legs, 3, 3)
             && is_kept(&mut corners, rt.alloc(), &image, 1, 3)
-    );
-    Ok(())
-}
-
-// So for each of these legs.
-fn are_kept(corners: &mut Corners<Whole>, alloc: Global, all: &[Legs], upto: i64) -> bool {
-    for legs in all {
-        if !is_kept(corners, alloc, legs, 0, upto) {
-            return false;
-        }
-    }
-    true
-}
-
-#[test]
-fn prepares_corners(rt: HostRuntime) -> Result<(), Fail> {
-    let web = conifold(rt.alloc())?;
-    let all = [one_cell(rt.alloc())?];
-    let legs = all_legs(rt.alloc(), &web, &all[0])?;
-    let mut corners = Corners::new(rt.alloc());
-    assert!(rt;
-        corners.prepare(rt.alloc(), &web, &all, 3).is_ok()
-            && are_kept(&mut corners, rt.alloc(), &legs, 2)
     );
     Ok(())
 }

@@ -5,7 +5,7 @@ use Rattle.std.proofs.Common.{refl, sym, ap, subst, ◌∙◌, arith, le_trans}
 use Rattle.tv_lemmas.proofs.Members.{all-filter}
 use Rattle.tv_spec_plane.specs.declared.records.CompactEdge.{CompactEdge}
 use Rattle.tv_spec_plane.specs.Graded.{HasDegree, IsGraded}
-use Rattle.tv_spec_plane.specs.Web.{Web, compact, degree_of}
+use Rattle.tv_spec_plane.specs.Web.{Web, compact, corners, corner_of, degree_of}
 use Rattle.tv_lattice.specs.Limits.{HasCoordinates}
 use Rattle.tv_laws_edges.specs.Rule.{HasEdgeRule}
 use Rattle.tv_cells.specs.declared.legs.Legs.{Legs}
@@ -15,7 +15,7 @@ use Rattle.tv_spec_boxes.specs.Assignments.{Rows, Assignment, all_legs, no_legs,
 use Rattle.tv_laws_counts.proofs.Degrees.{weights, weights_positive}
 use Rattle.tv_laws_frontier.specs.Steps.{is_new, put, nothing, states, options, new_part, near_part, near_legs}
 use Rattle.tv_laws_frontier.proofs.First.{nothing-long}
-use Rattle.tv_laws_frontier.proofs.Kept.{legs-long}
+use Rattle.std.proofs.lemmas.List.{length-map}
 use Rattle.tv_laws_frontier.proofs.StateClasses.{option-is}
 use Rattle.tv_assignment.specs.Size.{cells_of}
 use Rattle.tv_assignment.proofs.Listed.{cells-few}
@@ -71,11 +71,11 @@ module _ (w : Web) (d t : ℕ) (g : List Rows) (a : Assignment) (graded : IsGrad
   pub new-small : AllByRecursion HasCoordinates w.points → HasEdgeRule w → (c : List ℤ) → c ≡ class_of w a → AllByRecursion (λ (x : ℤ). unsigned_abs x ≤ 10000) c
   new-small coordinates rule c is = class-small w d c a coordinates rule new-few (sym is)
 
-pub corner-there : (w : Web) (t : ℕ) (a : Assignment) (all : List Legs) → all ≡ all_legs w a (no_legs w) → t < length w.triangles → t < length all
-corner-there w t a all is h = let l = legs-long w (no_legs w) a in let e = ap length is in omega arith
+pub corner-there : (w : Web) (t : ℕ) → t < length w.triangles → t < length (corners w)
+corner-there w t h = let l = length-map w.triangles (corner_of w) in omega arith
 
-pub corner-legs-at : (w : Web) (t : ℕ) (h g : List Rows) (a : Assignment) (all : List Legs) (l : Legs) → a ≡ near_part w t h g → all ≡ all_legs w a (no_legs w) → l ≡ slice_index_or all t empty_legs → l ≡ near_legs w (no_legs w) t h g
-corner-legs-at w t h g a all l seen is read = read ∙ (ap (λ x. slice_index_or x t empty_legs) is ∙ ap (λ x. slice_index_or (all_legs w x (no_legs w)) t empty_legs) seen)
+pub corner-legs-at : (w : Web) (t : ℕ) (h g : List Rows) (a : Assignment) (l : Legs) → a ≡ near_part w t h g → l ≡ slice_index_or (all_legs w a (no_legs w)) t empty_legs → l ≡ near_legs w (no_legs w) t h g
+corner-legs-at w t h g a l seen read = read ∙ ap (λ x. slice_index_or (all_legs w x (no_legs w)) t empty_legs) seen
 
 module _ (w : Web) (d t : ℕ) (h g : List Rows) (a seen : Assignment) (l : Legs) (c v : List ℤ) (cost overlap k : ℤ) (part : a ≡ new_part w t g) (both : seen ≡ near_part w t h g) where
   pub is-join : IsGraded w → AllByRecursion HasCoordinates w.points → HasEdgeRule w → d ≤ 24 → Contains (states w d t) h → Contains (options w d t) g → l ≡ near_legs w (no_legs w) t h g → c ≡ class_of w a → v ≡ class_of w seen → degree_of w.heights v ≤ℤ pos d → cost ≡ edge_costs w a → overlap ≡ pos (overlap_cost l) → k ≡ cost -ℤ overlap → unsigned_abs k ≤ 10000000 → IsJoin w d t h g l c v k

@@ -1,26 +1,26 @@
 //! How low the Euler characteristics over the first corners of a web can fall. No box is counted.
 
-ghost use Rattle.std.specs.Prelude.{◌≡◌, ◌<◌, ◌≤◌, length, unsigned_abs, slice_index_or, [], IfOk};
+ghost use Rattle.std.specs.Prelude.{◌≡◌, ◌≤◌, Contains, unsigned_abs, IfOk};
 ghost use Rattle.std.specs.Int.{int_min, int_max};
 ghost use Rattle.tv_spec_boxes.specs.Assignments.{assignments, no_legs};
 ghost use Rattle.tv_spec_boxes.specs.Numbers.{lowest, low_of};
 
 use std::alloc::{AllocError, Global};
-use tv_assignment::{Assignment, all_legs, assignments_of, low_of};
+use tv_assignment::{Assignment, all_legs, low_of};
+use tv_class_assignments::Assignments;
 use tv_degrees::grade::GradedWeb;
 use tv_spec_plane::limits::GREATEST_DEGREE;
 
-/// The least low over the assignments of degree at most `d`.
+/// The least low over the assignments of degree at most `d`, which are gone through one at a time.
 pub(crate) fn lowest_of(alloc: Global, web: &GradedWeb, d: u32) -> Result<i64, AllocError>
     requires { d ≤ GREATEST_DEGREE }
     ensures value { IfOk result (λ low. low ≡ lowest web.now (no_legs web.now) d) }
     ensures bound { IfOk result (λ low. unsigned_abs low ≤ 10000000) }
 {
-    web.known();
-    let all = assignments_of(alloc, web, d)?;
     let mut least = 0i64;
-    for k in 0..all.len() {
-        least = lesser(least, low_at(alloc, web, d, &all, k)?);
+    let mut coming = Assignments::of_degree(alloc, web, d)?;
+    while let Some(assignment) = coming.next()? {
+        least = lesser(least, low_at(alloc, web, d, &assignment)?);
     }
     Ok(least)
 }
@@ -29,18 +29,16 @@ fn low_at(
     alloc: Global,
     web: &GradedWeb,
     d: u32,
-    all: &[Assignment],
-    k: usize,
+    assignment: &Assignment,
 ) -> Result<i64, AllocError>
     requires degree { d ≤ GREATEST_DEGREE }
-    requires listed { all.now ≡ assignments web.now d }
-    requires place { k < length all.now }
-    ensures value { IfOk result (λ low. low ≡ low_of web.now (no_legs web.now) (slice_index_or all.now k [])) }
+    requires listed { Contains (assignments web.now d) assignment.now }
+    ensures value { IfOk result (λ low. low ≡ low_of web.now (no_legs web.now) assignment.now) }
     ensures bound { IfOk result (λ low. unsigned_abs low ≤ 10000000) }
 {
     web.known();
-    let legs = all_legs(alloc, web, &all[k])?;
-    Ok(low_of(web, &all[k], &legs))
+    let legs = all_legs(alloc, web, assignment)?;
+    Ok(low_of(web, assignment, &legs))
 }
 
 /// The lesser of both.

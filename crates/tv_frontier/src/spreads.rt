@@ -1,11 +1,10 @@
 //! A choice on some edges spread over all compact edges, and what it is at a corner. No series is known here.
 
-ghost use Rattle.std.specs.Prelude.{◌≡◌, ◌<◌, ◌≤◌, Contains, pos, ◌≤ℤ◌, length, slice_index_or, IfOk};
+ghost use Rattle.std.specs.Prelude.{◌≡◌, ◌≤◌, Contains, pos, ◌≤ℤ◌, IfOk};
 ghost use Rattle.tv_spec_plane.specs.Web.{compact, degree_of};
 ghost use Rattle.tv_spec_boxes.specs.Assignments.{class_of};
 ghost use Rattle.tv_laws_frontier.specs.Steps.{nothing, states, options, new_part, near_part};
 ghost use Rattle.tv_assignment.specs.Size.{cells_of};
-ghost use Rattle.tv_cells.specs.Extras.{empty_legs};
 ghost use Rattle.tv_frontier.specs.Picks.{put_by};
 ghost use Rattle.tv_frontier.specs.Joining.{IsStage, IsJoin};
 
@@ -13,8 +12,7 @@ use crate::joining::{Join, Stage};
 use crate::picks::{nothing, put};
 use std::alloc::{AllocError, Global};
 use tv_assigned_series::class_of;
-use tv_assignment::{Assignment, all_legs, edge_costs, overlap_cost};
-use tv_cells::legs::Legs;
+use tv_assignment::{Assignment, edge_costs, legs_at, overlap_cost};
 use tv_degrees::grade::GradedWeb;
 use tv_lattice::class::Class;
 use tv_partition::diagram::MOST_CELLS;
@@ -67,8 +65,7 @@ pub(crate) fn join_of<'a>(
     ensures new { IfOk result (λ join. join.new.now ≡ new.now) }
 {
     stage.web.known();
-    let all = all_legs(alloc, stage.web, seen)?;
-    let legs = corner_at(&all, stage.t)?;
+    let legs = legs_at(alloc, stage.web, seen, stage.t)?;
     let shift = edge_costs(stage.web, &added.part) - overlap_cost(&legs);
     Ok(Join {
         first,
@@ -78,13 +75,4 @@ pub(crate) fn join_of<'a>(
         near,
         shift,
     })
-}
-
-fn corner_at(all: &[Legs], t: u32) -> Result<Legs, AllocError>
-    requires { t < length all.now }
-    ensures { IfOk result (λ legs. legs ≡ slice_index_or all.now t empty_legs) }
-{
-    let legs = &all[t as usize];
-    let copy = legs.clone()?;
-    Ok(copy)
 }

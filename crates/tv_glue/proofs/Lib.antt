@@ -1,3 +1,4 @@
 pub mod Crowded
+mod Asking
+mod Prepared
 pub mod Adding
-mod Told

@@ -1,13 +1,17 @@
-//! The conifold in degree 1, as it is known from outside, each ring once through its bound.
+//! The conifold in degree 1, as it is known from outside, each ring once through its bound, and what is prepared for it.
 
 use crate::full;
+use crate::prepare::prepare;
 use std::alloc::Global;
 use std::test::Fail;
+use tv_assigned_series::Corners;
+use tv_cells::legs::Legs;
 use tv_degrees::grade::{GradedWeb, grade};
 use tv_graded::Graded;
 use tv_lattice::point::Point;
 use tv_laurent::{Coefficient, LPoly};
 use tv_laws_families::laws;
+use tv_partition::diagram::Diagram;
 use tv_ring::{Residue, Whole};
 use tv_spec_plane::records::Triple;
 use tv_triangulation::triangulate::triangulate;
@@ -81,6 +85,37 @@ fn counts_in_polynomials(rt: HostRuntime) -> Result<(), Fail> {
     let web = conifold(rt.alloc())?;
     let family: Graded<LPoly<Whole>> = full(rt.alloc(), &web, 1, 2)?;
     assert!(rt; is_constant(&family, 2, -4));
+    Ok(())
+}
+
+// A corner with these rows along x, and no other leg.
+fn corner(alloc: Global, rows: &[u32]) -> Result<Legs, Fail> {
+    Ok(Legs {
+        along_x: Diagram::new(rows.to_vec(alloc)?).ok_or("a diagram")?,
+        along_y: Diagram::empty(alloc),
+        along_z: Diagram::empty(alloc),
+    })
+}
+
+// How far the series of the corner is kept.
+fn kept(corners: &mut Corners<Whole>, alloc: Global, legs: &Legs) -> Option<i64> {
+    match corners.place_of(alloc, legs, 0) {
+        Ok(place) => Some(corners.at(place).upto()),
+        Err(_) => None,
+    }
+}
+
+#[test]
+fn prepares_corners(rt: HostRuntime) -> Result<(), Fail> {
+    let web = conifold(rt.alloc())?;
+    let mut corners = Corners::new(rt.alloc());
+    assert!(rt; prepare(rt.alloc(), &web, 1, 3, &mut corners).is_ok());
+    let bare = corner(rt.alloc(), &[])?;
+    let one = corner(rt.alloc(), &[1])?;
+    assert!(rt;
+        kept(&mut corners, rt.alloc(), &bare) == Some(3)
+            && kept(&mut corners, rt.alloc(), &one) == Some(2)
+    );
     Ok(())
 }
 

@@ -1,7 +1,9 @@
-use Rattle.std.proofs.Common.{take}
-use Rattle.tv_spec_boxes.specs.Assignments.{no_legs}
-use Rattle.tv_laws_families.specs.Glued.{IsGlued}
+use Rattle.std.proofs.Common.{length}
+use Rattle.tv_glue.proofs.Adding.{IsUnderWay}
 use Rattle.tv_glue.proofs.glued.full_over.Given as goal
 
-abbrev pub invariant-loop-k : goal.invariant-loop-k
-invariant-loop-k g l = IsGlued g.C.Ring.ring l.web (no_legs l.web) l.d l.n (take l.k l.summands.all.now) l.family
+abbrev pub invariant-loop-coming : goal.invariant-loop-coming
+invariant-loop-coming g l = IsUnderWay g.C.Ring.ring l.web l.d l.n l.coming l.family
+
+abbrev pub decreases-loop-coming : goal.decreases-loop-coming
+decreases-loop-coming g l = length l.coming

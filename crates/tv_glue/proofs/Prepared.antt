@@ -1,6 +1,6 @@
 -- What is asked for at all corners is kept: corner by corner, assignment by assignment, and entry by entry.
-use Rattle.std.proofs.Common.{◌≡◌, ℕ, zero, suc, ◌+◌, ◌<◌, ◌≤◌, Bool, true, false, cond, List, [], ◌∷◌, length, get_or, refl, sym, ◌∙◌, ap, subst, inl, inr, arith, le_trans}
-use Rattle.std.specs.Prelude.{ℤ, pos, ◌+ℤ◌, ◌-ℤ◌, ◌≤ℤ◌, ◌⊎◌, Contains, slice_index_or, slice_get, Some, None, Option, IsSomeAnd}
+use Rattle.std.proofs.Common.{◌≡◌, ℕ, zero, suc, ◌+◌, ◌<◌, ◌≤◌, Bool, true, false, cond, List, [], ◌∷◌, ◌++◌, length, get_or, refl, sym, ◌∙◌, ap, subst, inl, inr, arith, le_trans, append_assoc, append-nil}
+use Rattle.std.specs.Prelude.{ℤ, pos, ◌+ℤ◌, ◌-ℤ◌, ◌≤ℤ◌, ◌⊎◌, Contains, slice_get, Some, None, Option, IsSomeAnd}
 use Rattle.std.specs.Map.{lookup}
 use Rattle.std.proofs.lemmas.Int.{ints}
 use Rattle.std.proofs.lemmas.List.{get_or_read}
@@ -8,10 +8,12 @@ use Rattle.tv_ring.specs.Operations.{Operations}
 use Rattle.tv_laws_series.specs.Terms.{Terms}
 use Rattle.tv_spec_plane.specs.Web.{Web}
 use Rattle.tv_cells.specs.declared.legs.Legs.{Legs}
-use Rattle.tv_spec_boxes.specs.Assignments.{Assignment, all_legs, no_legs, edge_costs, overlaps_of}
+use Rattle.tv_spec_boxes.specs.Assignments.{Assignment, assignments, all_legs, no_legs, edge_costs, overlaps_of}
+use Rattle.tv_lemmas.proofs.Members.{all-onto, contains-head, contains-later}
+use Rattle.tv_lattice.proofs.Each.{each_push}
 use Rattle.tv_images.specs.Least.{least}
-use Rattle.tv_assigned_series.specs.declared.asked.Most.{Most}
-use Rattle.tv_assigned_series.specs.Asked.{Asks, AsksMore, AsksFor, AsksForAll, KeepsAll}
+use Rattle.tv_glue.specs.declared.asked.Most.{Most}
+use Rattle.tv_glue.specs.Asked.{Asks, AsksMore, AsksFor, AsksForAll, KeepsFor, KeepsAll}
 use Rattle.tv_assigned_series.specs.Kept.{same, Keeps, KeepsMore}
 use Rattle.tv_assigned_series.specs.Terms.{IsCornerFrom}
 use Rattle.tv_assigned_series.proofs.Inserted.{same-legs}
@@ -51,15 +53,38 @@ asks-for w n a es legs start left are begins ends each q k among far =
     within : (costs overlaps : ℤ) → start ≡ costs -ℤ overlaps → pos k ≤ℤ ((n -ℤ costs) +ℤ overlaps) → k ≤ left
     within costs overlaps e h = omega (arith, ints)
 
-pub still-all : (w : Web) (n : ℤ) (all : List Assignment) (es new : List (Legs × Most)) (k : ℕ) → AsksMore es new → AsksForAll w n all es k → AsksForAll w n all new k
-still-all w n all es new k more before j h q m among far = more (least q) m (before j h q m among far)
+pub still-all : (w : Web) (n : ℤ) (all : List Assignment) (es new : List (Legs × Most)) → AsksMore es new → AsksForAll w n all es → AsksForAll w n all new
+still-all w n all es new more before = all-onto (λ (a : Assignment). AsksFor w n a es) (λ (a : Assignment). AsksFor w n a new) (λ a asks q m at far. more (least q) m (asks q m at far)) all before
 
 -- assignment by assignment
-pub asks-one-more : (w : Web) (n : ℤ) (all : List Assignment) (es : List (Legs × Most)) (k : ℕ) → AsksFor w n (slice_index_or all k []) es → AsksForAll w n all es k → AsksForAll w n all es (k + 1)
-asks-one-more w n all es k here before j h = elim (below-next j k h) [
-  | inl less ↦ before j less
-  | inr one ↦ subst (λ m. AsksFor w n (slice_index_or all m []) es) (sym one) here
-]
+pub asks-one-more : (w : Web) (n : ℤ) (front : List Assignment) (a : Assignment) (es : List (Legs × Most)) → AsksFor w n a es → AsksForAll w n front es → AsksForAll w n (front ++ a ∷ []) es
+asks-one-more w n front a es here before = each_push (λ (b : Assignment). AsksFor w n b es) front a before here
+
+-- so it is for the assignments that are gone, where the others are still coming
+pub record AsksSoFar (w : Web) (d : ℕ) (n : ℤ) (coming : List Assignment) (es : List (Legs × Most)) : Type 0 where
+  pub front : List Assignment
+  pub split : front ++ coming ≡ assignments w d
+  pub all : AsksForAll w n front es
+
+pub none-gone : (w : Web) (d : ℕ) (n : ℤ) (coming : List Assignment) (es : List (Legs × Most)) → coming ≡ assignments w d → AsksSoFar w d n coming es
+none-gone w d n coming es is = record { front = []; split = is; all = tt }
+
+pub one-listed : (w : Web) (d : ℕ) (n : ℤ) (coming later : List Assignment) (a : Assignment) (es : List (Legs × Most)) → coming ≡ a ∷ later → AsksSoFar w d n coming es → Contains (assignments w d) a
+one-listed w d n coming later a es next so_far = subst (λ all. Contains all a) (ap (λ c. so_far.front ++ c) (sym next) ∙ so_far.split) (inside so_far.front)
+  where
+    inside : (front : List Assignment) → Contains (front ++ a ∷ later) a
+    inside [] = contains-head a a later refl
+    inside (b ∷ front) = contains-later a b (front ++ a ∷ later) (inside front)
+
+pub one-gone : (w : Web) (d : ℕ) (n : ℤ) (coming later : List Assignment) (a : Assignment) (es new : List (Legs × Most)) → coming ≡ a ∷ later → AsksMore es new → AsksFor w n a new → AsksSoFar w d n coming es → AsksSoFar w d n later new
+one-gone w d n coming later a es new next more here so_far = record {
+  front = so_far.front ++ a ∷ [];
+  split = append_assoc so_far.front (a ∷ []) later ∙ (ap (λ c. so_far.front ++ c) (sym next) ∙ so_far.split);
+  all = asks-one-more w n so_far.front a new here (still-all w n so_far.front es new more so_far.all);
+}
+
+pub all-gone : (w : Web) (d : ℕ) (n : ℤ) (coming : List Assignment) (es : List (Legs × Most)) → coming ≡ [] → AsksSoFar w d n coming es → AsksForAll w n (assignments w d) es
+all-gone w d n coming es none so_far = subst (λ all. AsksForAll w n all es) (sym (append-nil so_far.front) ∙ (ap (λ c. so_far.front ++ c) (sym none) ∙ so_far.split)) so_far.all
 
 abbrev StandsIn : List (Legs × Most) → Legs → Most → Type 0
 StandsIn es q m = (i : ℕ) × (i < length es) × (slice_get es i ≡ Some (q, m))
@@ -96,9 +121,9 @@ module _ {A : Type 0} (r : Operations A) where
         subst (λ (p : Legs × Most). Keeps r p.0 p.1.boxes new) pair here
   ]
 
-  pub kept-all : (w : Web) (n : ℤ) (all : List Assignment) (es : List (Legs × Most)) (ss : List (Legs × Terms A)) → AsksForAll w n all es (length all) → KeptUpTo es ss (length es) → KeepsAll r w n all ss
-  kept-all w n all es ss asks kept j h q k among far = found (lookup (same (least q)) es) refl (asks j h q k among far)
+  pub kept-all : (w : Web) (d : ℕ) (n : ℤ) (es : List (Legs × Most)) (ss : List (Legs × Terms A)) → AsksForAll w n (assignments w d) es → KeptUpTo es ss (length es) → KeepsAll r w d n ss
+  kept-all w d n es ss asks kept = all-onto (λ (a : Assignment). AsksFor w n a es) (λ (a : Assignment). KeepsFor r w n a ss) (λ a asked q k among far. found q k (lookup (same (least q)) es) refl (asked q k among far)) (assignments w d) asks
     where
-      found : (o : Option Most) → lookup (same (least q)) es ≡ o → IsSomeAnd o (λ m. k ≤ m.boxes) → Keeps r (least q) k ss
-      found None e asked = absurd asked
-      found (Some m) e asked = let at = looked-up es (least q) m e in keeps-fewer ss (least q) m.boxes k asked (kept at.0 at.1 (least q) m at.2)
+      found : (q : Legs) (k : ℕ) (o : Option Most) → lookup (same (least q)) es ≡ o → IsSomeAnd o (λ m. k ≤ m.boxes) → Keeps r (least q) k ss
+      found q k None e asked = absurd asked
+      found q k (Some m) e asked = let at = looked-up es (least q) m e in keeps-fewer ss (least q) m.boxes k asked (kept at.0 at.1 (least q) m at.2)
